@@ -1,0 +1,4 @@
+pub mod Line
+pub mod Making
+pub mod Numbers
+pub mod Store
