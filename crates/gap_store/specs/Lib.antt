@@ -1,0 +1,4 @@
+pub mod Gaps
+pub mod Meaning
+pub mod Rows
+pub mod Sliding
