@@ -1,0 +1,4 @@
+pub mod Chain
+pub mod Lines
+pub mod Meaning
+pub mod Slot
