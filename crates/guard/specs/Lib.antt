@@ -1,0 +1,3 @@
+pub mod Guarded
+pub mod Making
+pub mod Numbers

@@ -1,0 +1,5 @@
+pub mod Fitted
+pub mod Found
+pub mod Rows
+pub mod Reached
+pub mod Starts

@@ -1,0 +1,4 @@
+pub mod Tables
+pub mod Words
+pub mod Members
+pub mod Steps

@@ -1,0 +1,5 @@
+pub mod Label
+pub mod Name
+pub mod Numbers
+pub mod Shelf
+pub mod Text
