@@ -2,7 +2,7 @@
 use reading::setting::Setting;
 
 // In no list, with no name remembered.
-pub fn plain() -> Setting {
+pub(crate) fn plain() -> Setting {
     Setting {
         in_list: false,
         has_name: false,
@@ -10,7 +10,7 @@ pub fn plain() -> Setting {
 }
 
 // With a name remembered.
-pub fn named() -> Setting {
+pub(crate) fn named() -> Setting {
     Setting {
         in_list: false,
         has_name: true,
@@ -18,7 +18,7 @@ pub fn named() -> Setting {
 }
 
 // In a list.
-pub fn listed() -> Setting {
+pub(crate) fn listed() -> Setting {
     Setting {
         in_list: true,
         has_name: false,

@@ -15,7 +15,11 @@ use reading::setting::Setting;
 use std::alloc::Global;
 use std::test::*;
 
-pub fn shows(rt: LibcRuntime, rows: &[(&[u8], &[u8])], setting: Setting) -> Result<(), Fail> {
+pub(crate) fn shows(
+    rt: LibcRuntime,
+    rows: &[(&[u8], &[u8])],
+    setting: Setting,
+) -> Result<(), Fail> {
     for (case, row) in rows.iter().enumerate() {
         let (line, wanted) = *row;
         let Ok(said) = read_command(line, setting) else {

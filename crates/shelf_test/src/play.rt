@@ -21,7 +21,7 @@ pub enum Call {
     Add(usize, &'static [u8], Result<(), u8>),
 }
 
-pub fn play<S: Shelf>(shelf: &mut S, calls: &[Call]) -> Result<(), Fail> {
+pub(crate) fn play<S: Shelf>(shelf: &mut S, calls: &[Call]) -> Result<(), Fail> {
     for call in calls {
         match *call {
             Call::Lookup(name, want) => check_eq(shelf.lookup(name), want)?,

@@ -24,14 +24,14 @@ const UNTOUCHED: u8 = 0xee;
 
 const BUFFER: usize = 300;
 
-pub fn run<S: LineStore>(store: &mut S, calls: &[Call]) -> Result<(), Fail> {
+pub(crate) fn run<S: LineStore>(store: &mut S, calls: &[Call]) -> Result<(), Fail> {
     for call in calls {
         one(store, *call)?;
     }
     Ok(())
 }
 
-pub fn one<S: LineStore>(store: &mut S, call: Call) -> Result<(), Fail> {
+pub(crate) fn one<S: LineStore>(store: &mut S, call: Call) -> Result<(), Fail> {
     match call {
         Call::Count(n) => check_eq(store.count(), n),
         Call::Capacity(n) => check_eq(store.capacity(), n),
