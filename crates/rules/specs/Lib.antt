@@ -15,7 +15,6 @@ pub mod Printing
 pub mod Refusals
 pub mod RoundTrip
 pub mod Runs
-pub mod SameAnswers
 pub mod Settled
 pub mod Turns
 pub mod Undo

@@ -3,7 +3,6 @@
 pub mod examples;
 pub mod refusals;
 pub mod round_trip;
-pub mod same_answers;
 pub mod settled;
 pub mod turns;
 pub mod undo;
