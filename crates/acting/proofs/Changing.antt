@@ -3,7 +3,7 @@ use Rattle.std.proofs.Common.{◌≡◌, ℕ, zero, suc, ◌+◌, ◌-◌, ◌<�
 use Rattle.std.proofs.lemmas.List.{take-take, take-map}
 use Rattle.std.proofs.lemmas.Bool.{le-leb}
 use Rattle.std.proofs.lemmas.Bool.Decides.{nat_tests}
-use Rattle.command.specs.Said.{Address, Addresses, deleteLines, move_lines}
+use Rattle.command.specs.Said.{Address, Addresses, delete_lines, move_lines}
 use Rattle.reading.specs.Read.{Read}
 use Rattle.editing.specs.Shapes.{moved_pieces}
 use Rattle.rules.specs.Addresses.{Range, line_of, range_of}
@@ -32,9 +32,9 @@ front_kept m ls after e n h k =
 pub deleted : (room : ℕ) (w : World) (a : Addresses) (r : Range) (ls : List Line) → range_of w.text a (current_range w.text) ≡ Ok r
     → ls ≡ placed created w.text.lines (stay 1 (r.first - 1) ++ stay (suc r.final) (length w.text.lines))
     → leb (length ls) w.capacity ≡ true → all_fit (texts_of ls) ≡ true
-    → doing room w a deleteLines ≡ done (with_text (page ls (cond (ltb r.final (length w.text.lines)) r.first (r.first - 1))) w) []
+    → doing room w a delete_lines ≡ done (with_text (page ls (cond (ltb r.final (length w.text.lines)) r.first (r.first - 1))) w) []
 deleted room w a r ls e q c f =
-    does room w a deleteLines (deletes w.text r) (delete_effect room w a r e)
+    does room w a delete_lines (deletes w.text r) (delete_effect room w a r e)
     ∙ alters-done room w _ _ [] ls q c f (le-leb 0 room (omega arith))
 
 -- lines moved

@@ -4,7 +4,7 @@ use Rattle.shelf.specs.Shelf.{Shelf}
 use Rattle.command.specs.declared.fault.Fault.{Fault}
 use Rattle.command.specs.declared.fault.Fault.TheVariants.{NoMatch, DestinationInRange, TooManyLines, LineTooLong, SheetFull}
 use Rattle.command.specs.Marks.{bit_of}
-use Rattle.command.specs.Said.{Address, Addresses, FileName, Substitution, Action, deleteLines, mark_line, move_lines, printLines, printNext, printNumber, substitute, write_file}
+use Rattle.command.specs.Said.{Address, Addresses, FileName, Substitution, Action, delete_lines, mark_line, move_lines, print_lines, print_next, print_number, substitute, write_file}
 use Rattle.reading.specs.Read.{Read, ◌>>=◌}
 use Rattle.rules.specs.Addresses.{Range, line_of, range_of, whole_or, one_line}
 use Rattle.rules.specs.Checks.{◌>>◌, check}
@@ -56,11 +56,11 @@ module _ (room : ℕ) (w : World) where
     does d x e = rw e refl
 
     module _ (r : Range) (e : range_of w.text a (current_range w.text) ≡ Ok r) where
-      pub delete_effect : effect_of w a deleteLines ≡ Ok (deletes w.text r)
+      pub delete_effect : effect_of w a delete_lines ≡ Ok (deletes w.text r)
       unfolding effect_of
       delete_effect = rw e refl
 
-      pub print_effect : effect_of w a printLines ≡ Ok (shows r.final (printed (from_to r.first r.final w.text.lines)))
+      pub print_effect : effect_of w a print_lines ≡ Ok (shows r.final (printed (from_to r.first r.final w.text.lines)))
       unfolding effect_of
       print_effect = rw e refl
 
@@ -90,11 +90,11 @@ module _ (room : ℕ) (w : World) where
       substitute_nothing s h = rw (e, h) refl
 
     module _ (f : Fault) (e : range_of w.text a (current_range w.text) ≡ Err f) where
-      pub delete-refused : effect_of w a deleteLines ≡ Err f
+      pub delete-refused : effect_of w a delete_lines ≡ Err f
       unfolding effect_of
       delete-refused = rw e refl
 
-      pub print-refused : effect_of w a printLines ≡ Err f
+      pub print-refused : effect_of w a print_lines ≡ Err f
       unfolding effect_of
       print-refused = rw e refl
 
@@ -118,20 +118,20 @@ module _ (room : ℕ) (w : World) where
     mark_refused m f e = rw e refl
 
     pub next_effect : (n : ℕ) → one_line w.text a (suc w.text.current) false ≡ Ok n
-        → effect_of w a printNext ≡ Ok (shows n (printed (picked w.text.lines n)))
+        → effect_of w a print_next ≡ Ok (shows n (printed (picked w.text.lines n)))
     unfolding effect_of
     next_effect n e = rw e refl
 
-    pub next-refused : (f : Fault) → one_line w.text a (suc w.text.current) false ≡ Err f → effect_of w a printNext ≡ Err f
+    pub next-refused : (f : Fault) → one_line w.text a (suc w.text.current) false ≡ Err f → effect_of w a print_next ≡ Err f
     unfolding effect_of
     next-refused f e = rw e refl
 
     pub number_effect : (n : ℕ) → one_line w.text a (length w.text.lines) true ≡ Ok n
-        → effect_of w a printNumber ≡ Ok (shows w.text.current (numbered n))
+        → effect_of w a print_number ≡ Ok (shows w.text.current (numbered n))
     unfolding effect_of
     number_effect n e = rw e refl
 
-    pub number-refused : (f : Fault) → one_line w.text a (length w.text.lines) true ≡ Err f → effect_of w a printNumber ≡ Err f
+    pub number-refused : (f : Fault) → one_line w.text a (length w.text.lines) true ≡ Err f → effect_of w a print_number ≡ Err f
     unfolding effect_of
     number-refused f e = rw e refl
 

@@ -67,13 +67,13 @@ passed true true true false size n e = let z : ◌≡◌ {A = ℕ} 0 1 = cc in a
 passed true true true true size n e = record { some = refl; few = refl; fits = refl; printable = refl; size = cc }
 
 -- what was reckoned of a substitution, as the code has it
-module _ (w : World) (r : Range) (s : Substitution) (count last lastSize : ℕ) (fits : Bool) where
+module _ (w : World) (r : Range) (s : Substitution) (count last last_size : ℕ) (fits : Bool) where
   pub record Reckoning : Type 0 where
     pub counted : count ≡ min (length (placed created w.text.lines (rewritten s r 1 w.text.lines))) 4097
     pub fitted : fits ≡ all_fit (texts_of (placed created w.text.lines (rewritten s r 1 w.text.lines)))
     pub lasted : last ≡ min (last_new 0 0 (rewritten s r 1 w.text.lines)) 4097
     pub within : last_new 0 0 (rewritten s r 1 w.text.lines) ≤ length (placed created w.text.lines (rewritten s r 1 w.text.lines))
-    pub sized : fits ≡ true → count ≤ 4096 → 1 ≤ last → lastSize ≡ length (printed (picked (placed created w.text.lines (rewritten s r 1 w.text.lines)) last))
+    pub sized : fits ≡ true → count ≤ 4096 → 1 ≤ last → last_size ≡ length (printed (picked (placed created w.text.lines (rewritten s r 1 w.text.lines)) last))
     pub small : w.capacity ≤ 4096
 
   module _ (q : Reckoning) where
@@ -85,18 +85,18 @@ module _ (w : World) (r : Range) (s : Substitution) (count last lastSize : ℕ) 
     by_print false n out e = refl
 
     pub same_size : leb 1 last ≡ true → leb count w.capacity ≡ true → fits ≡ true
-        → cond s.print lastSize 0
+        → cond s.print last_size 0
         ≡ length (cond s.print (printed (picked (placed created w.text.lines (rewritten s r 1 w.text.lines)) (last_new 0 0 (rewritten s r 1 w.text.lines)))) [])
-    same_size h k f = by_print s.print lastSize _
+    same_size h k f = by_print s.print last_size _
         (q.sized f (omega (arith, leb-true count w.capacity k, q.small)) (leb-true 1 last h)
         ∙ ap (λ (n : ℕ). length (printed (picked (placed created w.text.lines (rewritten s r 1 w.text.lines)) n))) (same_last k))
 
     pub made_does : (room : ℕ) (a : Addresses) → range_of w.text a (current_range w.text) ≡ Ok r
         → doing room w a (substitute s)
-        ≡ checked (leb 1 last) (leb count w.capacity) fits (leb (cond s.print lastSize 0) room) (cond s.print lastSize 0)
+        ≡ checked (leb 1 last) (leb count w.capacity) fits (leb (cond s.print last_size 0) room) (cond s.print last_size 0)
         >> done (with_text (page (placed created w.text.lines (rewritten s r 1 w.text.lines)) (last_new 0 0 (rewritten s r 1 w.text.lines))) w)
         (cond s.print (printed (picked (placed created w.text.lines (rewritten s r 1 w.text.lines)) (last_new 0 0 (rewritten s r 1 w.text.lines)))) [])
-    made_does room a e = substitutes room w a r e s _ _ _ _ (cond s.print lastSize 0)
+    made_does room a e = substitutes room w a r e s _ _ _ _ (cond s.print last_size 0)
         (reckoned_some (last_new 0 0 (rewritten s r 1 w.text.lines)) ∙ ap (leb 1) (sym q.lasted))
         (reckoned_few _ w.capacity q.small ∙ ap (λ (k : ℕ). leb k w.capacity) (sym q.counted))
         (sym q.fitted)

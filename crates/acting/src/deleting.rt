@@ -1,7 +1,7 @@
 // `d`
 ghost use Rattle.std.specs.Prelude.{◌≡◌, ℕ, ◌-◌, List, [], IfOk, if◌then◌else◌, nat_lt};
 ghost use Rattle.shelf.specs.Shelf.{Shelf};
-ghost use Rattle.command.specs.Said.{deleteLines};
+ghost use Rattle.command.specs.Said.{delete_lines};
 ghost use Rattle.command.specs.View.{addresses_view};
 ghost use Rattle.reading.specs.Views.{seen};
 ghost use Rattle.rules.specs.Doing.{doing};
@@ -28,8 +28,8 @@ pub(crate) fn delete<T: LineStore, K: LineStore>(
     role: Role,
 ) -> Result<usize, Fault>
     requires { Seated session.old (T.LineStore.meaning text.old) (K.LineStore.meaning keep.old) }
-    ensures value { (h : Shelf) (room : ℕ) → seen {A = List ℕ} (λ _. []) result ≡ out_of (doing room (world_of session.old (T.LineStore.meaning text.old) (K.LineStore.meaning keep.old) h) (addresses_view addresses.entry) deleteLines) }
-    ensures world { (h : Shelf) (room : ℕ) → world_of session.new (T.LineStore.meaning text.new) (K.LineStore.meaning keep.new) h ≡ world_after role (world_of session.old (T.LineStore.meaning text.old) (K.LineStore.meaning keep.old) h) deleteLines (doing room (world_of session.old (T.LineStore.meaning text.old) (K.LineStore.meaning keep.old) h) (addresses_view addresses.entry) deleteLines) }
+    ensures value { (h : Shelf) (room : ℕ) → seen {A = List ℕ} (λ _. []) result ≡ out_of (doing room (world_of session.old (T.LineStore.meaning text.old) (K.LineStore.meaning keep.old) h) (addresses_view addresses.entry) delete_lines) }
+    ensures world { (h : Shelf) (room : ℕ) → world_of session.new (T.LineStore.meaning text.new) (K.LineStore.meaning keep.new) h ≡ world_after role (world_of session.old (T.LineStore.meaning text.old) (K.LineStore.meaning keep.old) h) delete_lines (doing room (world_of session.old (T.LineStore.meaning text.old) (K.LineStore.meaning keep.old) h) (addresses_view addresses.entry) delete_lines) }
     ensures seated { Seated session.new (T.LineStore.meaning text.new) (K.LineStore.meaning keep.new) }
     ensures front { IfOk result (λ n. FrontKept n (seen_lines (T.LineStore.meaning text.old)) (seen_lines (T.LineStore.meaning text.new))) }
 {

@@ -2,7 +2,7 @@
 ghost use Rattle.std.specs.Prelude.{◌≡◌, ◌+◌, ◌≤◌, ◌⊎◌, length};
 ghost use Rattle.lines.specs.Store.{Store};
 ghost use Rattle.shelf.specs.Shelf.{Shelf};
-ghost use Rattle.command.specs.Said.{printLines, printNext, printNumber};
+ghost use Rattle.command.specs.Said.{print_lines, print_next, print_number};
 ghost use Rattle.command.specs.View.{addresses_view};
 ghost use Rattle.rules.specs.Doing.{perform, doing};
 ghost use Rattle.rules.specs.Effects.{shows};
@@ -31,9 +31,9 @@ pub(crate) fn print<T: LineStore>(
 ) -> Result<usize, Fault>
     requires within { session.old.current ≤ length (meaning text.now).lines }
     requires room { at + 16 ≤ length sheet.old }
-    ensures value { (k : Store) (h : Shelf) → result ≡ at_after at (doing (room_in sheet.old at) (world_of session.old (meaning text.now) k h) (addresses_view addresses.entry) printLines) }
-    ensures world { (k : Store) (h : Shelf) → world_of session.new (meaning text.now) k h ≡ done_world (world_of session.old (meaning text.now) k h) (doing (room_in sheet.old at) (world_of session.old (meaning text.now) k h) (addresses_view addresses.entry) printLines) }
-    ensures sheet { (k : Store) (h : Shelf) → sheet.new ≡ sheet_after sheet.old at (doing (room_in sheet.old at) (world_of session.old (meaning text.now) k h) (addresses_view addresses.entry) printLines) }
+    ensures value { (k : Store) (h : Shelf) → result ≡ at_after at (doing (room_in sheet.old at) (world_of session.old (meaning text.now) k h) (addresses_view addresses.entry) print_lines) }
+    ensures world { (k : Store) (h : Shelf) → world_of session.new (meaning text.now) k h ≡ done_world (world_of session.old (meaning text.now) k h) (doing (room_in sheet.old at) (world_of session.old (meaning text.now) k h) (addresses_view addresses.entry) print_lines) }
+    ensures sheet { (k : Store) (h : Shelf) → sheet.new ≡ sheet_after sheet.old at (doing (room_in sheet.old at) (world_of session.old (meaning text.now) k h) (addresses_view addresses.entry) print_lines) }
     ensures within { session.new.current ≤ length (meaning text.now).lines }
     ensures capacity { session.new.capacity ≡ session.old.capacity }
 {
@@ -54,9 +54,9 @@ pub(crate) fn print_next<T: LineStore>(
 ) -> Result<usize, Fault>
     requires within { session.old.current ≤ length (meaning text.now).lines }
     requires room { at + 16 ≤ length sheet.old }
-    ensures value { (k : Store) (h : Shelf) → result ≡ at_after at (doing (room_in sheet.old at) (world_of session.old (meaning text.now) k h) (addresses_view addresses.entry) printNext) }
-    ensures world { (k : Store) (h : Shelf) → world_of session.new (meaning text.now) k h ≡ done_world (world_of session.old (meaning text.now) k h) (doing (room_in sheet.old at) (world_of session.old (meaning text.now) k h) (addresses_view addresses.entry) printNext) }
-    ensures sheet { (k : Store) (h : Shelf) → sheet.new ≡ sheet_after sheet.old at (doing (room_in sheet.old at) (world_of session.old (meaning text.now) k h) (addresses_view addresses.entry) printNext) }
+    ensures value { (k : Store) (h : Shelf) → result ≡ at_after at (doing (room_in sheet.old at) (world_of session.old (meaning text.now) k h) (addresses_view addresses.entry) print_next) }
+    ensures world { (k : Store) (h : Shelf) → world_of session.new (meaning text.now) k h ≡ done_world (world_of session.old (meaning text.now) k h) (doing (room_in sheet.old at) (world_of session.old (meaning text.now) k h) (addresses_view addresses.entry) print_next) }
+    ensures sheet { (k : Store) (h : Shelf) → sheet.new ≡ sheet_after sheet.old at (doing (room_in sheet.old at) (world_of session.old (meaning text.now) k h) (addresses_view addresses.entry) print_next) }
     ensures within { session.new.current ≤ length (meaning text.now).lines }
     ensures capacity { session.new.capacity ≡ session.old.capacity }
 {
@@ -79,9 +79,9 @@ pub(crate) fn print_line_number<T: LineStore>(
 ) -> Result<usize, Fault>
     requires within { session.now.current ≤ length (meaning text.now).lines }
     requires room { at + 16 ≤ length sheet.old }
-    ensures value { (k : Store) (h : Shelf) → result ≡ at_after at (doing (room_in sheet.old at) (world_of session.now (meaning text.now) k h) (addresses_view addresses.entry) printNumber) }
-    ensures world { (k : Store) (h : Shelf) → world_of session.now (meaning text.now) k h ≡ done_world (world_of session.now (meaning text.now) k h) (doing (room_in sheet.old at) (world_of session.now (meaning text.now) k h) (addresses_view addresses.entry) printNumber) }
-    ensures sheet { (k : Store) (h : Shelf) → sheet.new ≡ sheet_after sheet.old at (doing (room_in sheet.old at) (world_of session.now (meaning text.now) k h) (addresses_view addresses.entry) printNumber) }
+    ensures value { (k : Store) (h : Shelf) → result ≡ at_after at (doing (room_in sheet.old at) (world_of session.now (meaning text.now) k h) (addresses_view addresses.entry) print_number) }
+    ensures world { (k : Store) (h : Shelf) → world_of session.now (meaning text.now) k h ≡ done_world (world_of session.now (meaning text.now) k h) (doing (room_in sheet.old at) (world_of session.now (meaning text.now) k h) (addresses_view addresses.entry) print_number) }
+    ensures sheet { (k : Store) (h : Shelf) → sheet.new ≡ sheet_after sheet.old at (doing (room_in sheet.old at) (world_of session.now (meaning text.now) k h) (addresses_view addresses.entry) print_number) }
 {
     let count = text.count();
     let n = match resolve_line(text, session.current, addresses, count, true) {

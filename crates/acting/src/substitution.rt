@@ -1,7 +1,7 @@
 // `s`
 ghost use Rattle.std.specs.Prelude.{◌≡◌, ℕ, ◌+◌, ◌≤◌, true, [], length, IfOk, if◌then◌else◌, nat_le};
 ghost use Rattle.shelf.specs.Shelf.{Shelf};
-ghost use Rattle.command.specs.Said.{substitute as substituteLines};
+ghost use Rattle.command.specs.Said.{substitute as substitute_lines};
 ghost use Rattle.command.specs.View.{addresses_view, substitution_view};
 ghost use Rattle.printing.specs.Sheets.{written};
 ghost use Rattle.reading.specs.Views.{seen};
@@ -38,9 +38,9 @@ pub(crate) fn substitute<T: LineStore, K: LineStore>(
 ) -> Result<Acted, Fault>
     requires seated { Seated session.old (T.LineStore.meaning text.old) (K.LineStore.meaning keep.old) }
     requires room { at + 16 ≤ length sheet.old }
-    ensures value { (h : Shelf) → seen (λ x. x.at) result ≡ at_after at (doing (room_in sheet.old at) (world_of session.old (T.LineStore.meaning text.old) (K.LineStore.meaning keep.old) h) (addresses_view addresses.entry) (substituteLines (substitution_view substitution.entry))) }
-    ensures world { (h : Shelf) → world_of session.new (T.LineStore.meaning text.new) (K.LineStore.meaning keep.new) h ≡ world_after role (world_of session.old (T.LineStore.meaning text.old) (K.LineStore.meaning keep.old) h) (substituteLines (substitution_view substitution.entry)) (doing (room_in sheet.old at) (world_of session.old (T.LineStore.meaning text.old) (K.LineStore.meaning keep.old) h) (addresses_view addresses.entry) (substituteLines (substitution_view substitution.entry))) }
-    ensures sheet { (h : Shelf) → sheet.new ≡ sheet_after sheet.old at (doing (room_in sheet.old at) (world_of session.old (T.LineStore.meaning text.old) (K.LineStore.meaning keep.old) h) (addresses_view addresses.entry) (substituteLines (substitution_view substitution.entry))) }
+    ensures value { (h : Shelf) → seen (λ x. x.at) result ≡ at_after at (doing (room_in sheet.old at) (world_of session.old (T.LineStore.meaning text.old) (K.LineStore.meaning keep.old) h) (addresses_view addresses.entry) (substitute_lines (substitution_view substitution.entry))) }
+    ensures world { (h : Shelf) → world_of session.new (T.LineStore.meaning text.new) (K.LineStore.meaning keep.new) h ≡ world_after role (world_of session.old (T.LineStore.meaning text.old) (K.LineStore.meaning keep.old) h) (substitute_lines (substitution_view substitution.entry)) (doing (room_in sheet.old at) (world_of session.old (T.LineStore.meaning text.old) (K.LineStore.meaning keep.old) h) (addresses_view addresses.entry) (substitute_lines (substitution_view substitution.entry))) }
+    ensures sheet { (h : Shelf) → sheet.new ≡ sheet_after sheet.old at (doing (room_in sheet.old at) (world_of session.old (T.LineStore.meaning text.old) (K.LineStore.meaning keep.old) h) (addresses_view addresses.entry) (substitute_lines (substitution_view substitution.entry))) }
     ensures seated { Seated session.new (T.LineStore.meaning text.new) (K.LineStore.meaning keep.new) }
     ensures front { IfOk result (λ x. FrontKept x.front (seen_lines (T.LineStore.meaning text.old)) (seen_lines (T.LineStore.meaning text.new))) }
 {

@@ -5,13 +5,13 @@ use Rattle.patterns.specs.declared.pattern.Pattern.{Pattern}
 use Rattle.patterns.specs.Reading.{pattern_of}
 use Rattle.patterns.specs.View.{viewed}
 use Rattle.command.specs.declared.said.Chooser.{Chooser as ChooserCode}
-use Rattle.command.specs.Said.{Sought, Chooser, matchingLines, lackingLines}
+use Rattle.command.specs.Said.{Sought, Chooser, matching_lines, lacking_lines}
 use Rattle.command.specs.View.{chooser_view}
 
 -- what a chooser seeks in a line
 abbrev pub sought_by : Chooser → Sought
-sought_by (matchingLines s) = s
-sought_by (lackingLines s) = s
+sought_by (matching_lines s) = s
+sought_by (lacking_lines s) = s
 
 -- a pattern that was read from a chooser's part, or the fault of that part
 abbrev pub ReadFor : Result Pattern PatternFault → ChooserCode → Type 0

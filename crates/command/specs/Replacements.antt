@@ -4,7 +4,7 @@ use Rattle.command.specs.Said.{Bytes}
 
 -- What a replacement is made of: the matched run, a byte, or a line break.
 pub data Bit : Type 0 where
-  theMatch theBreak : Bit
+  the_match the_break : Bit
   the_byte : ℕ → Bit
 
 abbrev pub ampersand : ℕ
@@ -17,11 +17,11 @@ abbrev pub line_break : ℕ
 line_break = 10
 
 abbrev pub plain_bit : ℕ → Bit
-plain_bit b = cond (b == ampersand) theMatch (the_byte b)
+plain_bit b = cond (b == ampersand) the_match (the_byte b)
 
 -- The byte behind a `\` is itself, but byte 10 is a break.
 abbrev pub escaped_bit : ℕ → Bit
-escaped_bit b = cond (b == line_break) theBreak (the_byte b)
+escaped_bit b = cond (b == line_break) the_break (the_byte b)
 
 -- From the left. A `\` with nothing behind it is itself.
 unfoldable pub bits_of : Bytes → List Bit

@@ -8,7 +8,7 @@ Bytes = List ℕ
 -- What an address counts from: the current line, the last, a number, the line with a mark, or the next line that
 -- matches the pattern between two `/`.
 pub data Base : Type 0 where
-  atCurrent atLast : Base
+  at_current at_last : Base
   at_number : ℕ → Base
   at_mark : Mark → Base
   at_match : Bytes → Base
@@ -42,9 +42,9 @@ pub record Substitution : Type 0 where
   pub all : Bool
   pub print : Bool
 
--- What the list of a global may hold too. `printNext` is the empty command.
+-- What the list of a global may hold too. `print_next` is the empty command.
 pub data Action : Type 0 where
-  deleteLines printLines printNext printNumber : Action
+  delete_lines print_lines print_next print_number : Action
   mark_line : Mark → Action
   move_lines : Address → Action
   substitute : Substitution → Action
@@ -52,12 +52,12 @@ pub data Action : Type 0 where
 
 -- The lines that a global chooses.
 pub data Chooser : Type 0 where
-  matchingLines lackingLines : Sought → Chooser
+  matching_lines lacking_lines : Sought → Chooser
 
 -- `global` has the lines that it chooses, and the list that each has its turn with.
 pub data Command : Type 0 where
   act : Action → Command
-  appendText quitSession undoChange : Command
+  append_text quit_session undo_change : Command
   edit_file : FileName → Command
   global : Chooser → Bytes → Command
 

@@ -19,13 +19,13 @@ use Rattle.command.specs.declared.said.Chooser.TheVariants.{Matching, Lacking}
 use Rattle.command.specs.declared.said.Command.{Command as CommandCode}
 use Rattle.command.specs.declared.said.Command.TheVariants.{Act, AppendText, EditFile, QuitSession, UndoChange, Global}
 use Rattle.command.specs.declared.said.Said.{Said as SaidCode}
-use Rattle.command.specs.Said.{Bytes, Base, atCurrent, atLast, at_number, at_mark, at_match, Address, Addresses, no_address, one_address, two_addresses, Sought, FileName, remembered_name, given_name, Substitution, Action, deleteLines, mark_line, move_lines, printLines, printNext, printNumber, substitute, write_file, Chooser, matchingLines, lackingLines, Command, act, appendText, edit_file, quitSession, undoChange, global, Said}
+use Rattle.command.specs.Said.{Bytes, Base, at_current, at_last, at_number, at_mark, at_match, Address, Addresses, no_address, one_address, two_addresses, Sought, FileName, remembered_name, given_name, Substitution, Action, delete_lines, mark_line, move_lines, print_lines, print_next, print_number, substitute, write_file, Chooser, matching_lines, lacking_lines, Command, act, append_text, edit_file, quit_session, undo_change, global, Said}
 use Rattle.command.specs.Lists.{commands_in}
-use Rattle.command.specs.Replacements.{Bit, theMatch, the_byte, theBreak, bits_of}
+use Rattle.command.specs.Replacements.{Bit, the_match, the_byte, the_break, bits_of}
 
 abbrev pub base_view : BaseCode → Base
-base_view AtCurrent = atCurrent
-base_view AtLast = atLast
+base_view AtCurrent = at_current
+base_view AtLast = at_last
 base_view (AtNumber n) = at_number n
 base_view (AtMark m) = at_mark m.letter
 base_view (AtMatch part) = at_match part.now
@@ -50,34 +50,34 @@ substitution_view s =
     record { sought = sought_view s.sought; replacement = s.replacement.now; all = s.all; print = s.print }
 
 abbrev pub action_view : ActionCode → Action
-action_view DeleteLines = deleteLines
+action_view DeleteLines = delete_lines
 action_view (MarkLine m) = mark_line m.letter
 action_view (MoveLines a) = move_lines (address_view a)
-action_view PrintLines = printLines
-action_view PrintNext = printNext
-action_view PrintNumber = printNumber
+action_view PrintLines = print_lines
+action_view PrintNext = print_next
+action_view PrintNumber = print_number
 action_view (Substitute s) = substitute (substitution_view s)
 action_view (WriteFile name) = write_file (name_view name)
 
 abbrev pub chooser_view : ChooserCode → Chooser
-chooser_view (Matching s) = matchingLines (sought_view s)
-chooser_view (Lacking s) = lackingLines (sought_view s)
+chooser_view (Matching s) = matching_lines (sought_view s)
+chooser_view (Lacking s) = lacking_lines (sought_view s)
 
 abbrev pub command_view : CommandCode → Command
 command_view (Act a) = act (action_view a)
-command_view AppendText = appendText
+command_view AppendText = append_text
 command_view (EditFile name) = edit_file (name_view name)
-command_view QuitSession = quitSession
-command_view UndoChange = undoChange
+command_view QuitSession = quit_session
+command_view UndoChange = undo_change
 command_view (Global chooser list) = global (chooser_view chooser) list.now
 
 abbrev pub said_view : SaidCode → Said
 said_view s = record { addresses = addresses_view s.addresses; command = command_view s.command }
 
 abbrev pub bit_view : BitCode → Bit
-bit_view TheMatch = theMatch
+bit_view TheMatch = the_match
 bit_view (TheByte b) = the_byte b
-bit_view TheBreak = theBreak
+bit_view TheBreak = the_break
 
 -- The bits of a replacement, of which the code has the first and what is left.
 abbrev pub bits_behind : Option (BitCode × Bor Bytes) → List Bit

@@ -1,7 +1,7 @@
 -- What a global leaves alone: the capacity, and the text of every line that it chooses.
 use Rattle.std.proofs.Common.{◌≡◌, ℕ, zero, suc, ◌+◌, ◌-◌, ◌≤◌, Bool, true, false, leb, List, [], ◌∷◌, map, length, is_some, Some, None, Ok, Err, sym, refl, ap, ◌∙◌, subst, arith}
 use Rattle.command.specs.declared.fault.Fault.TheVariants.{SheetFull, TooManyLines, LineTooLong}
-use Rattle.command.specs.Said.{Addresses, Action, Command, act, appendText, edit_file, quitSession, undoChange, global, Said}
+use Rattle.command.specs.Said.{Addresses, Action, Command, act, append_text, edit_file, quit_session, undo_change, global, Said}
 use Rattle.reading.specs.Read.{Read}
 use Rattle.reading.specs.Commands.{said}
 use Rattle.command.specs.Lists.{commands_in, or_print, commands_of}
@@ -52,9 +52,9 @@ module _ (n : ℕ) where
   command-capacity room s a (act d) h =
       action_capacity s d (doing (room - length s.out) s.world a d) h
       (whenever_any (Like s.world.capacity) (effect_of s.world a d) _ (perform-capacity (room - length s.out) s.world))
-  command-capacity room s a appendText h = h
-  command-capacity room s a quitSession h = h
-  command-capacity room s a undoChange h = h
+  command-capacity room s a append_text h = h
+  command-capacity room s a quit_session h = h
+  command-capacity room s a undo_change h = h
   command-capacity room s a (edit_file f) h = h
   command-capacity room s a (global c l) h = h
 

@@ -4,7 +4,7 @@ use Rattle.std.proofs.lemmas.List.{places, same_lists, take-take}
 use Rattle.std.proofs.lemmas.Bool.{leb-true}
 use Rattle.command.specs.declared.fault.Fault.{Fault}
 use Rattle.command.specs.declared.fault.Fault.TheVariants.{SheetFull, TooManyLines, LineTooLong}
-use Rattle.command.specs.Said.{Addresses, FileName, Action, deleteLines, mark_line, move_lines, printLines, printNext, printNumber, substitute, write_file}
+use Rattle.command.specs.Said.{Addresses, FileName, Action, delete_lines, mark_line, move_lines, print_lines, print_next, print_number, substitute, write_file}
 use Rattle.printing.specs.Sheets.{written}
 use Rattle.printing.proofs.Sheets.{length-written}
 use Rattle.reading.specs.Read.{Read, ◌>>=◌}
@@ -51,12 +51,12 @@ Leaves (files f c all out) = Unit {0}
 
 effect_leaves : (w : World) (a : Addresses) (d : Action) → is_change true d ≡ false → Whenever Leaves (effect_of w a d)
 unfolding effect_of
-effect_leaves w a deleteLines h = let z : ◌≡◌ {A = ℕ} 0 1 = cc in absurd (omega arith)
+effect_leaves w a delete_lines h = let z : ◌≡◌ {A = ℕ} 0 1 = cc in absurd (omega arith)
 effect_leaves w a (mark_line m) h = let z : ◌≡◌ {A = ℕ} 0 1 = cc in absurd (omega arith)
 effect_leaves w a (move_lines d) h = let z : ◌≡◌ {A = ℕ} 0 1 = cc in absurd (omega arith)
-effect_leaves w a printLines h = whenever_any Leaves (range_of w.text a (current_range w.text)) _ λ r. tt
-effect_leaves w a printNext h = whenever_any Leaves (one_line w.text a (suc w.text.current) false) _ λ n. tt
-effect_leaves w a printNumber h = whenever_any Leaves (one_line w.text a (length w.text.lines) true) _ λ n. tt
+effect_leaves w a print_lines h = whenever_any Leaves (range_of w.text a (current_range w.text)) _ λ r. tt
+effect_leaves w a print_next h = whenever_any Leaves (one_line w.text a (suc w.text.current) false) _ λ n. tt
+effect_leaves w a print_number h = whenever_any Leaves (one_line w.text a (length w.text.lines) true) _ λ n. tt
 effect_leaves w a (substitute s) h = let z : ◌≡◌ {A = ℕ} 0 1 = cc in absurd (omega arith)
 effect_leaves w a (write_file f) h = whenever_any Leaves (whole_or w.text a) _ λ r. whenever_any Leaves (name_of w f) _ λ n. tt
 

@@ -4,7 +4,7 @@ use Rattle.std.specs.Str.{bytes_eq}
 use Rattle.command.specs.declared.fault.Fault.{Fault}
 use Rattle.command.specs.declared.fault.Fault.TheVariants.{SessionEnded, Unsaved, NothingToUndo, TextFull}
 use Rattle.command.specs.Lists.{commands_of}
-use Rattle.command.specs.Said.{Addresses, Command, act, appendText, edit_file, quitSession, undoChange, global}
+use Rattle.command.specs.Said.{Addresses, Command, act, append_text, edit_file, quit_session, undo_change, global}
 use Rattle.reading.specs.Commands.{said}
 use Rattle.reading.specs.Read.{Read}
 use Rattle.rules.specs.Addresses.{whole_or, one_line}
@@ -46,9 +46,9 @@ global-only room w want list f e t =
 
 command-only : (room : ℕ) (w : World) (a : Addresses) (x : Command) → Only w (by_command room w a x)
 command-only room w a (act d) = or-only w (doing room w a d) _ λ e f h t. absent f h
-command-only room w a appendText = or-only w (one_line w.text a w.text.current true) _ λ n f h t. absent f h
-command-only room w a quitSession = or-only w (check (w.warned || not w.unsaved) Unsaved) _ λ u f h t. absent f h
-command-only room w a undoChange = or-only w (check w.undoable NothingToUndo) _ λ u f h t. absent f h
+command-only room w a append_text = or-only w (one_line w.text a w.text.current true) _ λ n f h t. absent f h
+command-only room w a quit_session = or-only w (check (w.warned || not w.unsaved) Unsaved) _ λ u f h t. absent f h
+command-only room w a undo_change = or-only w (check w.undoable NothingToUndo) _ λ u f h t. absent f h
 command-only room w a (edit_file n) = or-only w (read_in room w n) _ λ v f h t. absent f h
 command-only room w a (global q l) = or-only w (whole_or w.text a) _ λ r. global-only room w (wanted q r) (commands_of l)
 

@@ -7,7 +7,7 @@ use Rattle.shelf.specs.Shelf.{Shelf}
 use Rattle.command.specs.declared.fault.Fault.{Fault}
 use Rattle.command.specs.declared.fault.Fault.TheVariants.{SheetTooShort, BreakInLine, Unsaved, NothingToUndo, FileNotFound, TooManyLines, LineTooLong, SheetFull}
 use Rattle.command.specs.Lists.{commands_of}
-use Rattle.command.specs.Said.{Addresses, Action, FileName, Command, act, appendText, edit_file, quitSession, undoChange, global, Said}
+use Rattle.command.specs.Said.{Addresses, Action, FileName, Command, act, append_text, edit_file, quit_session, undo_change, global, Said}
 use Rattle.reading.specs.Commands.{said}
 use Rattle.reading.specs.Read.{Read}
 use Rattle.rules.specs.Addresses.{whole_or, one_line}
@@ -146,9 +146,9 @@ action_going s d (Ok e) h g = record
 command_going : (room : ℕ) (s : Run) (a : Addresses) (x : Command) → Going s → Going (command_done room s a x)
 command_going room s a (act d) g =
     action_going s d (doing (room - length s.out) s.world a d) (doing-unbroken (room - length s.out) s.world a d g.world) g
-command_going room s a appendText g = record { world = g.world; before = g.before }
-command_going room s a quitSession g = record { world = g.world; before = g.before }
-command_going room s a undoChange g = record { world = g.world; before = g.before }
+command_going room s a append_text g = record { world = g.world; before = g.before }
+command_going room s a quit_session g = record { world = g.world; before = g.before }
+command_going room s a undo_change g = record { world = g.world; before = g.before }
 command_going room s a (edit_file f) g = record { world = g.world; before = g.before }
 command_going room s a (global q l) g = record { world = g.world; before = g.before }
 
@@ -208,11 +208,11 @@ command-unbroken : (room : ℕ) (w : World) (a : Addresses) (x : Command) → Un
 command-unbroken room w a (act d) u =
     or-unbroken (λ e. UnbrokenWorld e.world) w (doing room w a d) _ (doing-unbroken room w a d u) u λ e h.
     kept-unbroken (is_change false d) (is_change false d) (clean w.text) e.world (unbroken-clean w.text.lines u.text) h
-command-unbroken room w a appendText u =
+command-unbroken room w a append_text u =
     any_unbroken w (one_line w.text a w.text.current true) _ u λ n. record { text = u.text; keep = u.keep }
-command-unbroken room w a quitSession u =
+command-unbroken room w a quit_session u =
     any_unbroken w (check (w.warned || not w.unsaved) Unsaved) _ u λ _. record { text = u.text; keep = u.keep }
-command-unbroken room w a undoChange u =
+command-unbroken room w a undo_change u =
     any_unbroken w (check w.undoable NothingToUndo) _ u λ _. record { text = u.keep; keep = u.text }
 command-unbroken room w a (edit_file n) u = or-unbroken UnbrokenWorld w (read_in room w n) _ (read_in_unbroken room w n) u λ v h. h
 command-unbroken room w a (global q l) u =

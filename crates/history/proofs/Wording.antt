@@ -2,7 +2,7 @@
 use Rattle.std.proofs.Common.{◌≡◌, ℕ, ◌-◌, Bool, true, false, cond, not, ◌||◌, ltb, List, [], ◌∷◌, length, None, sym, refl, ap, ◌∙◌, subst}
 use Rattle.std.specs.Str.{bytes_eq}
 use Rattle.command.specs.declared.fault.Fault.TheVariants.{Unsaved, NothingToUndo, TextFull}
-use Rattle.command.specs.Said.{Addresses, Command, act, appendText, edit_file, quitSession, undoChange, global}
+use Rattle.command.specs.Said.{Addresses, Command, act, append_text, edit_file, quit_session, undo_change, global}
 use Rattle.rules.specs.Addresses.{one_line}
 use Rattle.rules.specs.Checks.{check}
 use Rattle.rules.specs.Commands.{putting, stopping, Outcome, accepted, refusal, read_in, by_command}
@@ -17,9 +17,9 @@ use Rattle.history.proofs.Obeying.{absent, give-passed, says-reply, or-done}
 
 kind_for : (room : ℕ) (w : World) (a : Addresses) (x : Command) → (by_command room w a x).fault ≡ None → KindFor x (by_command room w a x).kind
 kind_for room w a (act d) e = ap (λ (o : Outcome). o.kind) (or-done w (doing room w a d) _ e).2
-kind_for room w a appendText e = ap (λ (o : Outcome). o.kind) (or-done w (one_line w.text a w.text.current true) _ e).2
-kind_for room w a quitSession e = ap (λ (o : Outcome). o.kind) (or-done w (check (w.warned || not w.unsaved) Unsaved) _ e).2
-kind_for room w a undoChange e = ap (λ (o : Outcome). o.kind) (or-done w (check w.undoable NothingToUndo) _ e).2
+kind_for room w a append_text e = ap (λ (o : Outcome). o.kind) (or-done w (one_line w.text a w.text.current true) _ e).2
+kind_for room w a quit_session e = ap (λ (o : Outcome). o.kind) (or-done w (check (w.warned || not w.unsaved) Unsaved) _ e).2
+kind_for room w a undo_change e = ap (λ (o : Outcome). o.kind) (or-done w (check w.undoable NothingToUndo) _ e).2
 kind_for room w a (edit_file n) e = ap (λ (o : Outcome). o.kind) (or-done w (read_in room w n) _ e).2
 kind_for room w a (global c list) e = tt
 

@@ -1,7 +1,7 @@
 -- What each accepted line was, for undoing: the words `alteration`, `reading` and their like mean the commands that are given.
 use Rattle.std.specs.Prelude.{◌≡◌, ℕ, Bool, false, cond, [], ◌∷◌, None}
 use Rattle.std.specs.Str.{bytes_eq}
-use Rattle.command.specs.Said.{Command, act, appendText, edit_file, quitSession, undoChange, global, Said}
+use Rattle.command.specs.Said.{Command, act, append_text, edit_file, quit_session, undo_change, global, Said}
 use Rattle.rules.specs.Commands.{Kind, undoing, beginning, putting, stopping, reading, plain, alteration_if}
 use Rattle.rules.specs.Doing.{is_change}
 use Rattle.rules.specs.Giving.{entry_fault}
@@ -12,9 +12,9 @@ use Rattle.history.specs.Completing.{Says}
 -- `d`, `m` and `s` alter; whether a global does is told with its turns
 abbrev pub KindFor : Command → Kind → Type 0
 KindFor (act d) k = k ≡ alteration_if (is_change false d)
-KindFor appendText k = k ≡ beginning
-KindFor quitSession k = k ≡ plain
-KindFor undoChange k = k ≡ undoing
+KindFor append_text k = k ≡ beginning
+KindFor quit_session k = k ≡ plain
+KindFor undo_change k = k ≡ undoing
 KindFor (edit_file f) k = k ≡ reading
 KindFor (global c list) k = Unit {0}
 

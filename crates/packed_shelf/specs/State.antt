@@ -45,7 +45,7 @@ left_as t rows us bytes vs e f h = subst (λ (rs : List Row). Left t rs bytes) (
 
 -- the rows and bytes that were lent are xs and bs, and they came back as ys and cs
 module _ (s : PackedShelf) (k p : ℕ) (placed : Placed (vec_items s.rows) k p)
-    (xs ys : List Row) (bs cs : List ℕ) (lentRows : xs ≡ vec_items s.rows) (lentBytes : bs ≡ vec_items s.bytes) where
+    (xs ys : List Row) (bs cs : List ℕ) (lent_rows : xs ≡ vec_items s.rows) (lent_bytes : bs ≡ vec_items s.bytes) where
   pub emptied_left : ys ≡ rows_emptied xs p → cs ≡ bytes_emptied xs p bs
       → Left (with_files (packed (vec_items s.rows) (vec_items s.bytes)) (old_emptied (packed (vec_items s.rows) (vec_items s.bytes)) k))
       (vec_items (with_items s.rows ys)) (vec_items (with_items s.bytes cs))
@@ -54,9 +54,9 @@ module _ (s : PackedShelf) (k p : ℕ) (placed : Placed (vec_items s.rows) k p)
       let bytes = vec_items s.bytes in
       let a = a_row rows p placed.within in
       left_as _ _ (rows_emptied rows p) _ (bytes_emptied rows p bytes)
-      (refilled_to s.rows ys (rows_emptied rows p) (e ∙ ap (λ (rs : List Row). rows_emptied rs p) lentRows) (emptied-long rows s.numbered p a.0 placed.within a.1))
+      (refilled_to s.rows ys (rows_emptied rows p) (e ∙ ap (λ (rs : List Row). rows_emptied rs p) lent_rows) (emptied-long rows s.numbered p a.0 placed.within a.1))
       (refilled_to s.bytes cs (bytes_emptied rows p bytes)
-      (f ∙ (ap (λ (rs : List Row). bytes_emptied rs p bs) lentRows ∙ ap (λ (vs : List ℕ). bytes_emptied rows p vs) lentBytes))
+      (f ∙ (ap (λ (rs : List Row). bytes_emptied rs p bs) lent_rows ∙ ap (λ (vs : List ℕ). bytes_emptied rows p vs) lent_bytes))
       (old-long rows bytes (kept s) k p placed a.0 a.1))
       (old_kept rows bytes (kept s) k p placed a.0 a.1, old_after_lem rows bytes (kept s) k p placed a.0 a.1)
 
@@ -70,8 +70,8 @@ module _ (s : PackedShelf) (k p : ℕ) (placed : Placed (vec_items s.rows) k p)
       let n = length more in
       let a = a_row rows p placed.within in
       left_as _ _ (rows_lengthened rows p n) _ (bytes_lengthened rows p bytes more)
-      (refilled_to s.rows ys (rows_lengthened rows p n) (e ∙ ap (λ (rs : List Row). rows_lengthened rs p n) lentRows) (lengthened_long rows s.numbered p a.0 placed.within a.1 n))
+      (refilled_to s.rows ys (rows_lengthened rows p n) (e ∙ ap (λ (rs : List Row). rows_lengthened rs p n) lent_rows) (lengthened_long rows s.numbered p a.0 placed.within a.1 n))
       (refilled_to s.bytes cs (bytes_lengthened rows p bytes more)
-      (f ∙ (ap (λ (rs : List Row). bytes_lengthened rs p bs more) lentRows ∙ ap (λ (vs : List ℕ). bytes_lengthened rows p vs more) lentBytes))
+      (f ∙ (ap (λ (rs : List Row). bytes_lengthened rs p bs more) lent_rows ∙ ap (λ (vs : List ℕ). bytes_lengthened rows p vs more) lent_bytes))
       (longer-long rows bytes (kept s) k p placed a.0 a.1 more room))
       (longer_kept rows bytes (kept s) k p placed a.0 a.1 more room, longer_after rows bytes (kept s) k p placed a.0 a.1 more room)

@@ -2,7 +2,7 @@
 use Rattle.std.specs.Prelude.{ℕ, zero, suc, ◌+◌, ◌-◌, ◌*◌, Bool, true, false, cond, not, ◌&&◌, ◌||◌, [], ◌∷◌, length, Some, None, Ok, Err, Option, ◌==◌, nat_le}
 use Rattle.command.specs.declared.fault.Fault.TheVariants.{BadCommand, BadAddress}
 use Rattle.command.specs.Marks.{Mark, mark_of}
-use Rattle.command.specs.Said.{Bytes, Base, atCurrent, atLast, at_number, at_mark, at_match, Address, Addresses, no_address, one_address, two_addresses}
+use Rattle.command.specs.Said.{Bytes, Base, at_current, at_last, at_number, at_mark, at_match, Address, Addresses, no_address, one_address, two_addresses}
 use Rattle.reading.specs.Read.{Part, ◌>>=◌, when, begins}
 use Rattle.reading.specs.Parts.{pattern_at}
 
@@ -76,11 +76,11 @@ mark_at (b ∷ bs) = elim (mark_of b) [ Some m ↦ Ok (m, bs) | None ↦ Err Bad
 unfoldable pub base_at : Bytes → Part Base
 base_at [] = Err BadAddress
 base_at (b ∷ bs) =
-    cond (b == dot) (Ok (atCurrent, bs))
-    (cond (b == dollar) (Ok (atLast, bs))
+    cond (b == dot) (Ok (at_current, bs))
+    (cond (b == dollar) (Ok (at_last, bs))
     (cond (b == quote) (mark_at bs >>= λ r. Ok (at_mark r.0, r.1))
     (cond (b == slash) (pattern_at slash bs >>= λ r. Ok (at_match r.0, r.1))
-    (cond (is_sign b) (Ok (atCurrent, b ∷ bs))
+    (cond (is_sign b) (Ok (at_current, b ∷ bs))
     (number_at (b ∷ bs) >>= λ r. Ok (at_number r.0, r.1))))))
 
 abbrev pub only : Base → Address
@@ -112,7 +112,7 @@ without_first [] = Ok (no_address, [])
 without_first (b ∷ bs) =
     cond (is_comma b)
     (when (not (begins opens_address bs || begins is_comma bs)) BadAddress
-    (Ok (two_addresses (only (at_number 1)) (only atLast), bs)))
+    (Ok (two_addresses (only (at_number 1)) (only at_last), bs)))
     (Ok (no_address, b ∷ bs))
 
 -- The addresses in front of a command.

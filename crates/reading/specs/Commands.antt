@@ -1,7 +1,7 @@
 -- What stands behind each command letter, the table of the letters, and what a whole command line says.
 use Rattle.std.specs.Prelude.{ℕ, Bool, true, false, cond, not, ◌&&◌, ◌||◌, List, [], ◌∷◌, length, Some, None, Ok, Err, Option, ◌==◌, nat_lt}
 use Rattle.command.specs.declared.fault.Fault.TheVariants.{CommandTooLong, BadCommand, NotInList, UnwantedAddress}
-use Rattle.command.specs.Said.{Bytes, Sought, Addresses, no_address, one_address, two_addresses, deleteLines, mark_line, move_lines, printLines, printNext, printNumber, substitute, write_file, Chooser, matchingLines, lackingLines, Command, act, appendText, edit_file, quitSession, undoChange, global, Said}
+use Rattle.command.specs.Said.{Bytes, Sought, Addresses, no_address, one_address, two_addresses, delete_lines, mark_line, move_lines, print_lines, print_next, print_number, substitute, write_file, Chooser, matching_lines, lacking_lines, Command, act, append_text, edit_file, quit_session, undo_change, global, Said}
 use Rattle.reading.specs.Read.{Read, ◌>>=◌, when}
 use Rattle.reading.specs.Parts.{part_at, sought_at}
 use Rattle.reading.specs.Addresses.{mark_at, address_at, addresses_at}
@@ -56,19 +56,19 @@ rule b l a r = record { letter = b; listed = l; addressed = a; operands = r }
 -- `a` `d` `k` `m` `p` `=` `s` `e` `w` `q` `u` `g` `v`, in this order.
 abbrev pub rules : List Rule
 rules =
-    rule 97 false true (λ _. alone appendText)
-    ∷ rule 100 true true (λ _. alone (act deleteLines))
+    rule 97 false true (λ _. alone append_text)
+    ∷ rule 100 true true (λ _. alone (act delete_lines))
     ∷ rule 107 true true (λ _. marking)
     ∷ rule 109 true true (λ _. moving)
-    ∷ rule 112 true true (λ _. alone (act printLines))
-    ∷ rule 61 true true (λ _. alone (act printNumber))
+    ∷ rule 112 true true (λ _. alone (act print_lines))
+    ∷ rule 61 true true (λ _. alone (act print_number))
     ∷ rule 115 true true (λ _. substituting)
     ∷ rule 101 false false editing
     ∷ rule 119 true true writing
-    ∷ rule 113 false false (λ _. alone quitSession)
-    ∷ rule 117 false false (λ _. alone undoChange)
-    ∷ rule 103 false true (λ _. choosing matchingLines)
-    ∷ rule 118 false true (λ _. choosing lackingLines)
+    ∷ rule 113 false false (λ _. alone quit_session)
+    ∷ rule 117 false false (λ _. alone undo_change)
+    ∷ rule 103 false true (λ _. choosing matching_lines)
+    ∷ rule 118 false true (λ _. choosing lacking_lines)
     ∷ []
 
 abbrev pub rule_in : List Rule → ℕ → Option Rule
@@ -93,7 +93,7 @@ by_rule s addressed bs (Some r) =
 
 -- Behind the addresses: nothing, which is the empty command, or a letter.
 unfoldable pub command_at : Setting → Bool → Bytes → Read Command
-command_at s addressed [] = Ok (act printNext)
+command_at s addressed [] = Ok (act print_next)
 command_at s addressed (b ∷ bs) = by_rule s addressed bs (rule_for b)
 
 abbrev pub is_given : Addresses → Bool

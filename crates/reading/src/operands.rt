@@ -1,6 +1,6 @@
 // Reading what stands behind a command letter.
 ghost use Rattle.std.specs.Prelude.{◌≡◌, ◌≤◌, length};
-ghost use Rattle.command.specs.Said.{matchingLines, lackingLines};
+ghost use Rattle.command.specs.Said.{matching_lines, lacking_lines};
 ghost use Rattle.command.specs.View.{command_view};
 ghost use Rattle.reading.specs.Commands.{alone, marking, moving, flags_of, substituting, choosing, editing, writing, rule_for};
 ghost use Rattle.reading.specs.Views.{seen, operands_by};
@@ -126,7 +126,7 @@ fn read_writing(rest: &[u8], has_name: bool) -> Result<Command<'_>, Fault>
 
 // `g`: a pattern and a list.
 fn read_matching(rest: &[u8]) -> Result<Command<'_>, Fault>
-    ensures { seen command_view result ≡ choosing matchingLines rest.now }
+    ensures { seen command_view result ≡ choosing matching_lines rest.now }
 {
     match read_sought(rest) {
         Ok((sought, list)) => Ok(Command::Global(Chooser::Matching(sought), list)),
@@ -136,7 +136,7 @@ fn read_matching(rest: &[u8]) -> Result<Command<'_>, Fault>
 
 // `v`: a pattern and a list.
 fn read_lacking(rest: &[u8]) -> Result<Command<'_>, Fault>
-    ensures { seen command_view result ≡ choosing lackingLines rest.now }
+    ensures { seen command_view result ≡ choosing lacking_lines rest.now }
 {
     match read_sought(rest) {
         Ok((sought, list)) => Ok(Command::Global(Chooser::Lacking(sought), list)),

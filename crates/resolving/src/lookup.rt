@@ -1,7 +1,7 @@
 // Lines looked up by a pattern.
 ghost use Rattle.std.specs.Prelude.{◌≡◌, suc, ◌<◌, ◌≤◌, length, take, drop, IfSome};
 ghost use Rattle.lines.specs.Store.{line_at};
-ghost use Rattle.patterns.specs.View.{meaning as patternMeaning};
+ghost use Rattle.patterns.specs.View.{meaning as pattern_meaning};
 ghost use Rattle.rules.specs.Addresses.{next_match, slashed};
 ghost use Rattle.rules.specs.Lines.{page, seen, seen_lines, first_where};
 ghost use Rattle.matching.specs.Matching.{match_from};
@@ -16,7 +16,7 @@ use patterns::Pattern;
 // Whether line `n` has a match.
 pub fn line_matches<T: LineStore>(text: &T, n: usize, pattern: &Pattern) -> bool
     requires { (1 ≤ n) × (n ≤ length (meaning text.now).lines) }
-    ensures { result ≡ fits (patternMeaning pattern.now) (seen (line_at (meaning text.now) n)) }
+    ensures { result ≡ fits (pattern_meaning pattern.now) (seen (line_at (meaning text.now) n)) }
 {
     let mut buffer = [0u8; LINE_MAX];
     let size = copy_text(text, n, &mut buffer);
@@ -35,7 +35,7 @@ fn copy_text<T: LineStore>(text: &T, n: usize, buffer: &mut [u8]) -> usize
 
 fn has_match(pattern: &Pattern, line: &[u8]) -> bool
     requires { length line.now ≤ 255 }
-    ensures { result ≡ is_there (match_from (patternMeaning pattern.now) line.now 0) }
+    ensures { result ≡ is_there (match_from (pattern_meaning pattern.now) line.now 0) }
 {
     matches!(find(pattern, line, 0), Ok(Some(_)))
 }
@@ -48,7 +48,7 @@ pub fn find_match<T: LineStore>(
     to: usize,
 ) -> Option<usize>
     requires { to ≤ length (meaning text.now).lines }
-    ensures value { result ≡ first_where (fits (patternMeaning pattern.now)) (suc from) (drop from (take to (seen_lines (meaning text.now)))) }
+    ensures value { result ≡ first_where (fits (pattern_meaning pattern.now)) (suc from) (drop from (take to (seen_lines (meaning text.now)))) }
     ensures within { IfSome result (λ n. n ≤ to) }
 {
     for n in from..to {

@@ -2,7 +2,7 @@
 use Rattle.std.proofs.Common.{◌≡◌, ℕ, zero, suc, ◌+◌, ◌-◌, ◌<◌, ◌≤◌, true, false, ◌&&◌, ◌||◌, ltb, leb, ◌⊎◌, List, [], ◌∷◌, ◌++◌, length, refl, inl, inr, arith}
 use Rattle.std.proofs.lemmas.Bool.{ltb-true, ltb-false, leb-true, and_parts, or_cases}
 use Rattle.command.specs.declared.fault.Fault.TheVariants.{OutsideText, NoMatch, DestinationInRange}
-use Rattle.command.specs.Said.{Addresses, Substitution, Action, deleteLines, mark_line, move_lines, printLines, printNext, printNumber, substitute, write_file}
+use Rattle.command.specs.Said.{Addresses, Substitution, Action, delete_lines, mark_line, move_lines, print_lines, print_next, print_number, substitute, write_file}
 use Rattle.rules.specs.Addresses.{Range, both, line_of, range_of, whole_or, one_line}
 use Rattle.rules.specs.Effects.{Effect, shows, alters, marks, files, current_range, deletes, moves, rewritten, name_of, effect_of}
 use Rattle.rules.specs.Lines.{Line, Page}
@@ -95,7 +95,7 @@ outside t f l e = elim (or_cases (ltb t f) (ltb l t) e) [ inl h ↦ inl (ltb-tru
 
 pub effect_once : (w : World) (a : Addresses) (d : Action) → Whenever NoneTwice (effect_of w a d)
 unfolding effect_of
-effect_once w a deleteLines =
+effect_once w a delete_lines =
     whenever_then NoneTwice Ordered (range_of w.text a (current_range w.text)) _ (range_ordered w.text a _) λ r h.
     deletes-once w.text r h
 effect_once w a (mark_line m) = whenever_any NoneTwice (one_line w.text a w.text.current false) _ λ n. tt
@@ -104,9 +104,9 @@ effect_once w a (move_lines d) =
     whenever_any NoneTwice (line_of w.text d) _ λ t.
     whenever_check NoneTwice (ltb t r.first || ltb r.final t) DestinationInRange _ λ e.
     moves-once w.text r t h (outside t r.first r.final e)
-effect_once w a printLines = whenever_any NoneTwice (range_of w.text a (current_range w.text)) _ λ r. tt
-effect_once w a printNext = whenever_any NoneTwice (one_line w.text a (suc w.text.current) false) _ λ n. tt
-effect_once w a printNumber = whenever_any NoneTwice (one_line w.text a (length w.text.lines) true) _ λ n. tt
+effect_once w a print_lines = whenever_any NoneTwice (range_of w.text a (current_range w.text)) _ λ r. tt
+effect_once w a print_next = whenever_any NoneTwice (one_line w.text a (suc w.text.current) false) _ λ n. tt
+effect_once w a print_number = whenever_any NoneTwice (one_line w.text a (length w.text.lines) true) _ λ n. tt
 effect_once w a (substitute s) =
     whenever_any NoneTwice (range_of w.text a (current_range w.text)) _ λ r.
     whenever_check NoneTwice (leb 1 (last_new 0 0 (rewritten s r 1 w.text.lines))) NoMatch _ λ e k.

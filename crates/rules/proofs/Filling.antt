@@ -5,7 +5,7 @@ use Rattle.command.specs.declared.fault.Fault.TheVariants.{Unsaved, NothingToUnd
 use Rattle.command.specs.Lists.{commands_of}
 use Rattle.reading.specs.Read.{Read}
 use Rattle.reading.specs.Commands.{said}
-use Rattle.command.specs.Said.{Addresses, FileName, Action, Command, act, appendText, edit_file, quitSession, undoChange, global, Said}
+use Rattle.command.specs.Said.{Addresses, FileName, Action, Command, act, append_text, edit_file, quit_session, undo_change, global, Said}
 use Rattle.rules.specs.Addresses.{whole_or, one_line}
 use Rattle.rules.specs.Checks.{or_fault, check}
 use Rattle.rules.specs.Commands.{Kind, alteration, undoing, beginning, putting, stopping, reading, plain, alteration_if, Outcome, accepted, or_refusal, acted, read_in, size_of, edited, globally, by_command, command_line}
@@ -122,9 +122,9 @@ module _ (w : World) where
   command-keeps : (room : ℕ) (s : Run) (a : Addresses) (x : Command) → Keeping w s → Keeping w (command_done room s a x)
   command-keeps room s a (act d) k =
       action_keeps s d (doing (room - length s.out) s.world a d) (doing-apart (room - length s.out) s.world a d) k
-  command-keeps room s a appendText k = record { before = k.before; kept = k.kept }
-  command-keeps room s a quitSession k = record { before = k.before; kept = k.kept }
-  command-keeps room s a undoChange k = record { before = k.before; kept = k.kept }
+  command-keeps room s a append_text k = record { before = k.before; kept = k.kept }
+  command-keeps room s a quit_session k = record { before = k.before; kept = k.kept }
+  command-keeps room s a undo_change k = record { before = k.before; kept = k.kept }
   command-keeps room s a (edit_file f) k = record { before = k.before; kept = k.kept }
   command-keeps room s a (global q l) k = record { before = k.before; kept = k.kept }
 
@@ -197,9 +197,9 @@ edited_right room w n = by (read_in room w n) (read_in_nothing room w n)
 
 command_right : (room : ℕ) (w : World) (a : Addresses) (x : Command) → Right (state_in idle w) (by_command room w a x)
 command_right room w a (act d) = acted_right room w a d
-command_right room w a appendText = or_right w (one_line w.text a w.text.current true) _ λ n. (record { keep = refl; undoable = refl }, refl, refl)
-command_right room w a quitSession = or_right w (check (w.warned || not w.unsaved) Unsaved) _ λ _. (record { keep = refl; undoable = refl }, tt)
-command_right room w a undoChange = or_right w (check w.undoable NothingToUndo) _ λ _. (record { keep = refl; undoable = refl }, refl)
+command_right room w a append_text = or_right w (one_line w.text a w.text.current true) _ λ n. (record { keep = refl; undoable = refl }, refl, refl)
+command_right room w a quit_session = or_right w (check (w.warned || not w.unsaved) Unsaved) _ λ _. (record { keep = refl; undoable = refl }, tt)
+command_right room w a undo_change = or_right w (check w.undoable NothingToUndo) _ λ _. (record { keep = refl; undoable = refl }, refl)
 command_right room w a (edit_file n) = edited_right room w n
 command_right room w a (global q l) = or_right w (whole_or w.text a) _ λ r. global_right room w (wanted q r) (commands_of l)
 

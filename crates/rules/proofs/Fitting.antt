@@ -3,7 +3,7 @@ use Rattle.std.proofs.Common.{◌≡◌, ℕ, suc, ◌+◌, ◌-◌, ◌<◌, �
 use Rattle.std.proofs.lemmas.List.{length-append}
 use Rattle.std.proofs.lemmas.Bool.{ltb-true, ltb-false, leb-true, and_parts}
 use Rattle.command.specs.declared.fault.Fault.TheVariants.{OutsideText, NoMatch, DestinationInRange}
-use Rattle.command.specs.Said.{Address, Addresses, Substitution, Action, deleteLines, mark_line, move_lines, printLines, printNext, printNumber, substitute, write_file}
+use Rattle.command.specs.Said.{Address, Addresses, Substitution, Action, delete_lines, mark_line, move_lines, print_lines, print_next, print_number, substitute, write_file}
 use Rattle.rules.specs.Addresses.{Range, both, to, base_line, line_of, range_of, whole_or, one_line}
 use Rattle.rules.specs.Effects.{Effect, shows, alters, marks, files, current_range, deletes, moves, rewritten, name_of, effect_of}
 use Rattle.rules.specs.Lines.{Line, Page}
@@ -107,10 +107,10 @@ range-checked g a d = whenever_any (Checked g) (both g a d) _ λ r.
     let q = and_parts (leb 1 r.first) (leb r.first r.final) p.0 in
     record { some = leb-true 1 r.first q.0; upward = leb-true r.first r.final q.1; within = leb-true r.final (length g.lines) p.1 }
 
-pub line-within : (g : Page) (a : Addresses) (d : ℕ) (zeroToo : Bool) → Whenever (λ n. n ≤ length g.lines) (one_line g a d zeroToo)
-line-within g a d zeroToo = whenever_any (λ n. n ≤ length g.lines) (both g a (to d d)) _ λ r.
-    whenever_check (λ n. n ≤ length g.lines) ((zeroToo || leb 1 r.final) && leb r.final (length g.lines)) OutsideText _ λ e.
-    leb-true r.final (length g.lines) (and_parts (zeroToo || leb 1 r.final) (leb r.final (length g.lines)) e).1
+pub line-within : (g : Page) (a : Addresses) (d : ℕ) (zero_too : Bool) → Whenever (λ n. n ≤ length g.lines) (one_line g a d zero_too)
+line-within g a d zero_too = whenever_any (λ n. n ≤ length g.lines) (both g a (to d d)) _ λ r.
+    whenever_check (λ n. n ≤ length g.lines) ((zero_too || leb 1 r.final) && leb r.final (length g.lines)) OutsideText _ λ e.
+    leb-true r.final (length g.lines) (and_parts (zero_too || leb 1 r.final) (leb r.final (length g.lines)) e).1
 
 destination_within : (g : Page) (a : Address) → Whenever (λ n. n ≤ length g.lines) (line_of g a)
 destination_within g a = whenever_any (λ n. n ≤ length g.lines) (base_line g a.base) _ λ b.
@@ -121,18 +121,18 @@ destination_within g a = whenever_any (λ n. n ≤ length g.lines) (base_line g 
 
 pub effect_fits : (w : World) (a : Addresses) (d : Action) → Whenever (Fits w.text) (effect_of w a d)
 unfolding effect_of
-effect_fits w a deleteLines = whenever_then (Fits w.text) (Checked w.text) (range_of w.text a (current_range w.text)) _ (range-checked w.text a _) λ r c.
+effect_fits w a delete_lines = whenever_then (Fits w.text) (Checked w.text) (range_of w.text a (current_range w.text)) _ (range-checked w.text a _) λ r c.
     deletes_fits w.text r c
 effect_fits w a (mark_line m) = whenever_any (Fits w.text) (one_line w.text a w.text.current false) _ λ n. tt
 effect_fits w a (move_lines d) = whenever_then (Fits w.text) (Checked w.text) (range_of w.text a (current_range w.text)) _ (range-checked w.text a _) λ r c.
     whenever_then (Fits w.text) (λ n. n ≤ length w.text.lines) (line_of w.text d) _ (destination_within w.text d) λ t h.
     whenever_check (Fits w.text) (ltb t r.first || ltb r.final t) DestinationInRange _ λ e.
     moves_fits w.text r t c h
-effect_fits w a printLines = whenever_then (Fits w.text) (Checked w.text) (range_of w.text a (current_range w.text)) _ (range-checked w.text a _) λ r c _.
+effect_fits w a print_lines = whenever_then (Fits w.text) (Checked w.text) (range_of w.text a (current_range w.text)) _ (range-checked w.text a _) λ r c _.
     c.within
-effect_fits w a printNext =
+effect_fits w a print_next =
     whenever_then (Fits w.text) (λ n. n ≤ length w.text.lines) (one_line w.text a (suc w.text.current) false) _ (line-within w.text a _ false) λ n h _. h
-effect_fits w a printNumber = whenever_any (Fits w.text) (one_line w.text a (length w.text.lines) true) _ λ n h. h
+effect_fits w a print_number = whenever_any (Fits w.text) (one_line w.text a (length w.text.lines) true) _ λ n h. h
 effect_fits w a (substitute s) = whenever_any (Fits w.text) (range_of w.text a (current_range w.text)) _ λ r.
     whenever_check (Fits w.text) (leb 1 (last_new 0 0 (rewritten s r 1 w.text.lines))) NoMatch _ λ e.
     rewritten_fits s r w.text

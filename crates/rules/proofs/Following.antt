@@ -7,7 +7,7 @@ use Rattle.command.specs.declared.fault.Fault.TheVariants.{TooManyLines, LineToo
 use Rattle.reading.specs.Read.{Read, ◌>>=◌}
 use Rattle.reading.specs.Commands.{said}
 use Rattle.rules.specs.Checks.{◌>>◌}
-use Rattle.command.specs.Said.{Addresses, Action, Command, act, appendText, edit_file, quitSession, undoChange, global, Said}
+use Rattle.command.specs.Said.{Addresses, Action, Command, act, append_text, edit_file, quit_session, undo_change, global, Said}
 use Rattle.rules.specs.Dealing.{Serials, passed, carried, action_of, effect_in, carried_if, along}
 use Rattle.rules.specs.Doing.{Done, short, texts_of, perform, unsaved_if, kept_if}
 use Rattle.rules.specs.Effects.{Effect, shows, alters, marks, files, effect_of}
@@ -186,9 +186,9 @@ module _ (n : ℕ) (xs : List Known) (numbered : Numbered n xs) where
       (command_done room s a c).world
   command_follows room s a (act d) g =
       effect_follows (room - length s.out) s d (effect_of s.world a d) g (effect_once s.world a d)
-  command_follows room s a appendText g = stays_put s.world.text.lines g
-  command_follows room s a quitSession g = stays_put s.world.text.lines g
-  command_follows room s a undoChange g = stays_put s.world.text.lines g
+  command_follows room s a append_text g = stays_put s.world.text.lines g
+  command_follows room s a quit_session g = stays_put s.world.text.lines g
+  command_follows room s a undo_change g = stays_put s.world.text.lines g
   command_follows room s a (edit_file f) g = stays_put s.world.text.lines g
   command_follows room s a (global c l) g = stays_put s.world.text.lines g
 

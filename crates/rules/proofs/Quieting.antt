@@ -6,7 +6,7 @@ use Rattle.command.specs.declared.fault.Fault.TheVariants.{SheetFull, Unsaved, N
 use Rattle.command.specs.Lists.{commands_of}
 use Rattle.reading.specs.Read.{Read, ◌>>=◌}
 use Rattle.reading.specs.Commands.{said}
-use Rattle.command.specs.Said.{Addresses, Action, deleteLines, mark_line, move_lines, printLines, printNext, printNumber, substitute, write_file, Command, act, appendText, edit_file, quitSession, undoChange, global, Said}
+use Rattle.command.specs.Said.{Addresses, Action, delete_lines, mark_line, move_lines, print_lines, print_next, print_number, substitute, write_file, Command, act, append_text, edit_file, quit_session, undo_change, global, Said}
 use Rattle.rules.specs.Addresses.{range_of, whole_or, one_line}
 use Rattle.rules.specs.Checks.{check}
 use Rattle.rules.specs.Commands.{alteration_if, Outcome, accepted, or_refusal, acted, read_in, globally, by_command, command_line}
@@ -54,12 +54,12 @@ Harmless (files f c all out) = Unit {0}
 
 effect_harmless : (b : Bool) (w : World) (a : Addresses) (d : Action) → is_change b d ≡ false → Whenever Harmless (effect_of w a d)
 unfolding effect_of
-effect_harmless b w a deleteLines e = absurd (both_ways true e refl)
+effect_harmless b w a delete_lines e = absurd (both_ways true e refl)
 effect_harmless b w a (mark_line m) e = whenever_any Harmless (one_line w.text a w.text.current false) _ λ n. tt
 effect_harmless b w a (move_lines d) e = absurd (both_ways true e refl)
-effect_harmless b w a printLines e = whenever_any Harmless (range_of w.text a (current_range w.text)) _ λ r. tt
-effect_harmless b w a printNext e = whenever_any Harmless (one_line w.text a (suc w.text.current) false) _ λ n. tt
-effect_harmless b w a printNumber e = whenever_any Harmless (one_line w.text a (length w.text.lines) true) _ λ n. tt
+effect_harmless b w a print_lines e = whenever_any Harmless (range_of w.text a (current_range w.text)) _ λ r. tt
+effect_harmless b w a print_next e = whenever_any Harmless (one_line w.text a (suc w.text.current) false) _ λ n. tt
+effect_harmless b w a print_number e = whenever_any Harmless (one_line w.text a (length w.text.lines) true) _ λ n. tt
 effect_harmless b w a (substitute s) e = absurd (both_ways true e refl)
 effect_harmless b w a (write_file f) e = whenever_any Harmless (whole_or w.text a) _ λ r. whenever_any Harmless (name_of w f) _ λ n. tt
 
@@ -112,9 +112,9 @@ module _ (w : World) where
 
   command_spares : (room : ℕ) (s : Run) (a : Addresses) (x : Command) → Spared s → Spared (command_done room s a x)
   command_spares room s a (act d) h = action_spares s d (doing (room - length s.out) s.world a d) (doing_same true (room - length s.out) s.world a d) h
-  command_spares room s a appendText h = h
-  command_spares room s a quitSession h = h
-  command_spares room s a undoChange h = h
+  command_spares room s a append_text h = h
+  command_spares room s a quit_session h = h
+  command_spares room s a undo_change h = h
   command_spares room s a (edit_file f) h = h
   command_spares room s a (global q l) h = h
 
@@ -172,9 +172,9 @@ acted_same room w a d = by (doing room w a d) (doing_same false room w a d)
 
 command_same : (room : ℕ) (w : World) (a : Addresses) (x : Command) → Calls w (by_command room w a x)
 command_same room w a (act d) = acted_same room w a d
-command_same room w a appendText = or_same w (one_line w.text a w.text.current true) _ λ n q. refl
-command_same room w a quitSession = or_same w (check (w.warned || not w.unsaved) Unsaved) _ λ _ q. refl
-command_same room w a undoChange = or_same w (check w.undoable NothingToUndo) _ λ _ q. absurd q
+command_same room w a append_text = or_same w (one_line w.text a w.text.current true) _ λ n q. refl
+command_same room w a quit_session = or_same w (check (w.warned || not w.unsaved) Unsaved) _ λ _ q. refl
+command_same room w a undo_change = or_same w (check w.undoable NothingToUndo) _ λ _ q. absurd q
 command_same room w a (edit_file n) = or_same w (read_in room w n) _ λ v q. absurd q
 command_same room w a (global q l) = or_same w (whole_or w.text a) _ λ r. global_same room w (wanted q r) (commands_of l)
 

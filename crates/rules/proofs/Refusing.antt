@@ -6,7 +6,7 @@ use Rattle.command.specs.declared.fault.Fault.TheVariants.{CommandTooLong, TextF
 use Rattle.command.specs.Lists.{commands_of}
 use Rattle.reading.specs.Read.{Read}
 use Rattle.reading.specs.Commands.{said}
-use Rattle.command.specs.Said.{Addresses, Action, Command, act, appendText, edit_file, quitSession, undoChange, global, Said}
+use Rattle.command.specs.Said.{Addresses, Action, Command, act, append_text, edit_file, quit_session, undo_change, global, Said}
 use Rattle.rules.specs.Addresses.{whole_or, one_line}
 use Rattle.rules.specs.Checks.{check}
 use Rattle.rules.specs.Commands.{Kind, plain, stopping, putting, Outcome, refusal, or_refusal, accepted, acted, appended, edited, read_in, quitted, undone, globally, by_command, command_line}
@@ -39,9 +39,9 @@ action_turns s d (Ok e) = refl
 
 command-turns : (room : ℕ) (s : Run) (a : Addresses) (c : Command) → (command_done room s a c).turns ≡ s.turns
 command-turns room s a (act d) = action_turns s d (doing (room - length s.out) s.world a d)
-command-turns room s a appendText = refl
-command-turns room s a quitSession = refl
-command-turns room s a undoChange = refl
+command-turns room s a append_text = refl
+command-turns room s a quit_session = refl
+command-turns room s a undo_change = refl
 command-turns room s a (edit_file f) = refl
 command-turns room s a (global c l) = refl
 
@@ -87,9 +87,9 @@ global_right room w want list f e t = absent f (sym (turnless _ room list (start
 
 command_right : (room : ℕ) (w : World) (a : Addresses) (c : Command) → Right w (by_command room w a c)
 command_right room w a (act d) = or_right w (doing room w a d) _ λ d f e t. absent f e
-command_right room w a appendText = or_right w (one_line w.text a w.text.current true) _ λ n f e t. absent f e
-command_right room w a quitSession = or_right w (check (w.warned || not w.unsaved) _) _ λ u f e t. absent f e
-command_right room w a undoChange = or_right w (check w.undoable _) _ λ u f e t. absent f e
+command_right room w a append_text = or_right w (one_line w.text a w.text.current true) _ λ n f e t. absent f e
+command_right room w a quit_session = or_right w (check (w.warned || not w.unsaved) _) _ λ u f e t. absent f e
+command_right room w a undo_change = or_right w (check w.undoable _) _ λ u f e t. absent f e
 command_right room w a (edit_file n) = or_right w (read_in room w n) _ λ v f e t. absent f e
 command_right room w a (global c l) = or_right w (whole_or w.text a) _ λ r. global_right room w (wanted c r) (commands_of l)
 

@@ -7,7 +7,7 @@ use Rattle.command.specs.declared.fault.Fault.TheVariants.{Unsaved, NothingToUnd
 use Rattle.command.specs.Lists.{commands_of}
 use Rattle.reading.specs.Read.{Read}
 use Rattle.reading.specs.Commands.{said}
-use Rattle.command.specs.Said.{Addresses, FileName, Action, Command, act, appendText, edit_file, quitSession, undoChange, global, Said}
+use Rattle.command.specs.Said.{Addresses, FileName, Action, Command, act, append_text, edit_file, quit_session, undo_change, global, Said}
 use Rattle.rules.specs.Addresses.{whole_or, one_line}
 use Rattle.rules.specs.Checks.{or_fault, check}
 use Rattle.rules.specs.Commands.{Outcome, or_refusal, acted, loaded, read_in, globally, by_command, command_line}
@@ -85,9 +85,9 @@ module _ (c : ℕ) where
   command_going room s a (act d) g =
       action_going s d (doing (room - length s.out) s.world a d) (doing-apart (room - length s.out) s.world a d)
       (doing_tame c (room - length s.out) s.world g.world.text a d) g
-  command_going room s a appendText g = record { world = g.world; before = g.before }
-  command_going room s a quitSession g = record { world = g.world; before = g.before }
-  command_going room s a undoChange g = record { world = g.world; before = g.before }
+  command_going room s a append_text g = record { world = g.world; before = g.before }
+  command_going room s a quit_session g = record { world = g.world; before = g.before }
+  command_going room s a undo_change g = record { world = g.world; before = g.before }
   command_going room s a (edit_file f) g = record { world = g.world; before = g.before }
   command_going room s a (global q l) g = record { world = g.world; before = g.before }
 
@@ -162,13 +162,13 @@ read_in_calm room w n s =
 
 command_calm : (room : ℕ) (w : World) (a : Addresses) (x : Command) → Steady 0 w → Calm (by_command room w a x).world
 command_calm room w a (act d) s = acted_calm room w a d s
-command_calm room w a appendText s =
+command_calm room w a append_text s =
     or_calm (λ n. n ≤ length w.text.lines) w (one_line w.text a w.text.current true) _ (line-within w.text a _ true) (steady_calm w s) λ n h.
     record { text = tame_current 0 w.text n s.text h; keep = s.keep; ready = s.text.within }
-command_calm room w a quitSession s =
+command_calm room w a quit_session s =
     or_calm (λ _. Unit {0}) w (check (w.warned || not w.unsaved) Unsaved) _ (any_read (check (w.warned || not w.unsaved) Unsaved)) (steady_calm w s) λ _ _.
     record { text = s.text; keep = s.keep; ready = tt }
-command_calm room w a undoChange s =
+command_calm room w a undo_change s =
     or_calm (λ _. Unit {0}) w (check w.undoable NothingToUndo) _ (any_read (check w.undoable NothingToUndo)) (steady_calm w s) λ _ _.
     steady_calm _ (record { mode = s.mode; text = s.keep; keep = s.text })
 command_calm room w a (edit_file n) s = or_calm Calm w (read_in room w n) _ (read_in_calm room w n s) (steady_calm w s) λ v h. h

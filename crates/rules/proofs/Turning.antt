@@ -4,7 +4,7 @@ use Rattle.std.proofs.lemmas.Bool.{ne_eqb, cases_lt}
 use Rattle.std.specs.Str.{bytes_eq}
 use Rattle.reading.specs.Read.{Read}
 use Rattle.reading.specs.Commands.{said}
-use Rattle.command.specs.Said.{Addresses, Action, Command, act, appendText, edit_file, quitSession, undoChange, global, Said}
+use Rattle.command.specs.Said.{Addresses, Action, Command, act, append_text, edit_file, quit_session, undo_change, global, Said}
 use Rattle.rules.specs.Dealing.{Serials, along, Moment, Dealt, over, deal}
 use Rattle.rules.specs.Doing.{Done, doing}
 use Rattle.rules.specs.Globals.{one_if, sum_of, setting, Run, action_done, command_done, read_done, obeyed, turn, begun, next_turn, turns_of}
@@ -26,9 +26,9 @@ action_turns s d (Ok e) = refl
 
 command-turns : (room : ℕ) (s : Run) (a : Addresses) (c : Command) → (command_done room s a c).turns ≡ s.turns
 command-turns room s a (act d) = action_turns s d (doing (room - length s.out) s.world a d)
-command-turns room s a appendText = refl
-command-turns room s a quitSession = refl
-command-turns room s a undoChange = refl
+command-turns room s a append_text = refl
+command-turns room s a quit_session = refl
+command-turns room s a undo_change = refl
 command-turns room s a (edit_file f) = refl
 command-turns room s a (global c l) = refl
 

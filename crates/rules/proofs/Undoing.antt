@@ -3,7 +3,7 @@ use Rattle.std.proofs.Common.{◌≡◌, ℕ, suc, ◌-◌, Bool, true, false, L
 use Rattle.shelf.specs.Shelf.{Shelf}
 use Rattle.command.specs.declared.fault.Fault.TheVariants.{NothingToUndo}
 use Rattle.reading.specs.Commands.{said}
-use Rattle.command.specs.Said.{Addresses, undoChange, Said}
+use Rattle.command.specs.Said.{Addresses, undo_change, Said}
 use Rattle.rules.specs.Checks.{check}
 use Rattle.rules.specs.Commands.{Kind, alteration, undoing, beginning, putting, stopping, reading, plain, accepted, Outcome, or_refusal, by_command, command_line}
 use Rattle.rules.specs.Giving.{Handed, odd_tail, by_mode, entered, entry_fault, Reply, turned_away, answered, give}

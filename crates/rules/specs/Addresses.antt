@@ -5,7 +5,7 @@ use Rattle.command.specs.declared.fault.Fault.TheVariants.{OutsideText, NoMark, 
 use Rattle.command.specs.Marks.{bit_of}
 use Rattle.reading.specs.Read.{Read, ◌>>=◌}
 use Rattle.rules.specs.Checks.{◌>>◌, check, or_fault}
-use Rattle.command.specs.Said.{Base, atCurrent, atLast, at_number, at_mark, at_match, Address, Addresses, no_address, one_address, two_addresses, Sought}
+use Rattle.command.specs.Said.{Base, at_current, at_last, at_number, at_mark, at_match, Address, Addresses, no_address, one_address, two_addresses, Sought}
 use Rattle.rules.specs.Lines.{Line, Page, has_mark, first_where}
 use Rattle.rules.specs.Patterns.{matches}
 
@@ -24,8 +24,8 @@ abbrev pub slashed : List ℕ → Sought
 slashed part = record { delimiter = 47; part = part }
 
 abbrev pub base_line : Page → Base → Read ℕ
-base_line g atCurrent = Ok g.current
-base_line g atLast = Ok (length g.lines)
+base_line g at_current = Ok g.current
+base_line g at_last = Ok (length g.lines)
 base_line g (at_number n) = Ok n
 base_line g (at_mark m) = or_fault NoMark (first_where (has_mark (bit_of m)) 1 g.lines)
 base_line g (at_match part) = or_fault NoMatch (next_match g (slashed part))
@@ -70,7 +70,7 @@ whole_or g (two_addresses a b) = range_of g (two_addresses a b) (to 1 1)
 
 -- one line, where zero may be accepted; of two addresses the last counts
 abbrev pub one_line : Page → Addresses → ℕ → Bool → Read ℕ
-one_line g a d zeroToo = do
+one_line g a d zero_too = do
   r ← both g a (to d d)
-  check ((zeroToo || nat_le 1 r.final) && nat_le r.final (length g.lines)) OutsideText
+  check ((zero_too || nat_le 1 r.final) && nat_le r.final (length g.lines)) OutsideText
   Ok r.final

@@ -2,7 +2,7 @@
 use Rattle.std.specs.Prelude.{ℕ, Bool, true, false, not, ◌||◌, List, [], ◌∷◌, map, length, Some, None, Ok, Err, Option, nat_le}
 use Rattle.command.specs.declared.fault.Fault.{Fault}
 use Rattle.command.specs.declared.fault.Fault.TheVariants.{Unsaved, NothingToUndo, FileNotFound, TooManyLines, LineTooLong, SheetFull}
-use Rattle.command.specs.Said.{Addresses, FileName, Action, Chooser, Command, act, appendText, edit_file, quitSession, undoChange, global, Said}
+use Rattle.command.specs.Said.{Addresses, FileName, Action, Chooser, Command, act, append_text, edit_file, quit_session, undo_change, global, Said}
 use Rattle.command.specs.Lists.{commands_of}
 use Rattle.reading.specs.Read.{Read, ◌>>=◌}
 use Rattle.reading.specs.Commands.{said}
@@ -116,9 +116,9 @@ globally room w want list =
 
 abbrev pub by_command : ℕ → World → Addresses → Command → Outcome
 by_command room w a (act d) = acted room w a d
-by_command room w a appendText = appended w a
-by_command room w a quitSession = quitted w
-by_command room w a undoChange = undone w
+by_command room w a append_text = appended w a
+by_command room w a quit_session = quitted w
+by_command room w a undo_change = undone w
 by_command room w a (edit_file n) = edited room w n
 by_command room w a (global c list) = or_refusal w (whole_or w.text a) λ r. globally room w (wanted c r) (commands_of list)
 

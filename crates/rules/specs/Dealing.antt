@@ -8,7 +8,7 @@ use Rattle.command.specs.Lists.{commands_of}
 use Rattle.reading.specs.Read.{Read, ◌>>=◌}
 use Rattle.reading.specs.Commands.{said}
 use Rattle.rules.specs.Checks.{◌>>◌}
-use Rattle.command.specs.Said.{Addresses, Action, Chooser, Command, act, appendText, edit_file, quitSession, undoChange, global}
+use Rattle.command.specs.Said.{Addresses, Action, Chooser, Command, act, append_text, edit_file, quit_session, undo_change, global}
 use Rattle.rules.specs.Addresses.{Range, whole_or}
 use Rattle.rules.specs.Commands.{Outcome, globally, command_line}
 use Rattle.rules.specs.Doing.{texts_of, perform}
@@ -43,9 +43,9 @@ carried (files f c all out) s = s
 
 abbrev pub action_of : Command → Read Action
 action_of (act d) = Ok d
-action_of appendText = Err NotInList
-action_of quitSession = Err NotInList
-action_of undoChange = Err NotInList
+action_of append_text = Err NotInList
+action_of quit_session = Err NotInList
+action_of undo_change = Err NotInList
 action_of (edit_file f) = Err NotInList
 action_of (global c l) = Err NotInList
 

@@ -4,7 +4,7 @@ use Rattle.shelf.specs.Shelf.{Shelf}
 use Rattle.command.specs.declared.fault.Fault.{Fault}
 use Rattle.command.specs.declared.fault.Fault.TheVariants.{TooManyLines, LineTooLong, SheetFull}
 use Rattle.reading.specs.Read.{Read, ◌>>=◌}
-use Rattle.command.specs.Said.{Addresses, Action, deleteLines, mark_line, move_lines, printLines, printNext, printNumber, substitute, write_file}
+use Rattle.command.specs.Said.{Addresses, Action, delete_lines, mark_line, move_lines, print_lines, print_next, print_number, substitute, write_file}
 use Rattle.rules.specs.Checks.{◌>>◌, check}
 use Rattle.rules.specs.Effects.{Effect, shows, alters, marks, files, effect_of}
 use Rattle.rules.specs.Files.{filed}
@@ -53,14 +53,14 @@ doing room w a d = do
 
 -- `d`, `m` and `s` are changes, and in a global `k`
 abbrev pub is_change : Bool → Action → Bool
-is_change inGlobal deleteLines = true
-is_change inGlobal (mark_line m) = inGlobal
-is_change inGlobal (move_lines d) = true
-is_change inGlobal printLines = false
-is_change inGlobal printNext = false
-is_change inGlobal printNumber = false
-is_change inGlobal (substitute s) = true
-is_change inGlobal (write_file f) = false
+is_change in_global delete_lines = true
+is_change in_global (mark_line m) = in_global
+is_change in_global (move_lines d) = true
+is_change in_global print_lines = false
+is_change in_global print_next = false
+is_change in_global print_number = false
+is_change in_global (substitute s) = true
+is_change in_global (write_file f) = false
 
 -- a change makes the text unsaved
 abbrev pub unsaved_if : Bool → World → World

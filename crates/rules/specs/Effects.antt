@@ -4,7 +4,7 @@ use Rattle.command.specs.declared.fault.Fault.{Fault}
 use Rattle.command.specs.declared.fault.Fault.TheVariants.{NoMatch, DestinationInRange, NoName}
 use Rattle.command.specs.Marks.{bit_of}
 use Rattle.reading.specs.Read.{Read, ◌>>=◌}
-use Rattle.command.specs.Said.{Address, Addresses, Sought, FileName, remembered_name, given_name, Substitution, Action, deleteLines, mark_line, move_lines, printLines, printNext, printNumber, substitute, write_file}
+use Rattle.command.specs.Said.{Address, Addresses, Sought, FileName, remembered_name, given_name, Substitution, Action, delete_lines, mark_line, move_lines, print_lines, print_next, print_number, substitute, write_file}
 use Rattle.rules.specs.Checks.{◌>>◌, or_fault, check}
 use Rattle.rules.specs.Addresses.{Range, to, line_of, range_of, whole_or, one_line}
 use Rattle.rules.specs.Lines.{Line, Page, picked, from_to, created}
@@ -55,7 +55,7 @@ name_of w remembered_name = or_fault NoName w.name
 name_of w (given_name n) = Ok n
 
 unfoldable pub effect_of : World → Addresses → Action → Read Effect
-effect_of w a deleteLines = do
+effect_of w a delete_lines = do
   r ← range_of w.text a (current_range w.text)
   Ok (deletes w.text r)
 effect_of w a (mark_line m) = do
@@ -66,13 +66,13 @@ effect_of w a (move_lines d) = do
   t ← line_of w.text d
   check (nat_lt t r.first || nat_lt r.final t) DestinationInRange
   Ok (moves w.text r t)
-effect_of w a printLines = do
+effect_of w a print_lines = do
   r ← range_of w.text a (current_range w.text)
   Ok (shows r.final (printed (from_to r.first r.final w.text.lines)))
-effect_of w a printNext = do
+effect_of w a print_next = do
   n ← one_line w.text a (suc w.text.current) false
   Ok (shows n (printed (picked w.text.lines n)))
-effect_of w a printNumber = do
+effect_of w a print_number = do
   n ← one_line w.text a (length w.text.lines) true
   Ok (shows w.text.current (numbered n))
 effect_of w a (substitute s) = do

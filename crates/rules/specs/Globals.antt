@@ -2,7 +2,7 @@
 use Rattle.std.specs.Prelude.{ℕ, zero, suc, ◌+◌, ◌-◌, Bool, true, false, not, ◌&&◌, ◌||◌, List, [], ◌∷◌, ◌++◌, length, is_some, Some, None, Ok, Err, Option, nat_le}
 use Rattle.command.specs.declared.fault.Fault.{Fault}
 use Rattle.command.specs.declared.fault.Fault.TheVariants.{NotInList}
-use Rattle.command.specs.Said.{Addresses, Sought, Action, Chooser, matchingLines, lackingLines, Command, act, appendText, edit_file, quitSession, undoChange, global, Said}
+use Rattle.command.specs.Said.{Addresses, Sought, Action, Chooser, matching_lines, lacking_lines, Command, act, append_text, edit_file, quit_session, undo_change, global, Said}
 use Rattle.reading.specs.Read.{Read}
 use Rattle.reading.specs.Commands.{Setting, said}
 use Rattle.rules.specs.Addresses.{Range}
@@ -17,8 +17,8 @@ setting w in_list = record { in_list = in_list; has_name = is_some w.name }
 
 -- which lines are chosen: a fact about a line's bytes, for the lines in range
 abbrev pub holds : Chooser → List ℕ → Bool
-holds (matchingLines s) t = matches s t
-holds (lackingLines s) t = not (matches s t)
+holds (matching_lines s) t = matches s t
+holds (lacking_lines s) t = not (matches s t)
 
 abbrev pub wanted : Chooser → Range → ℕ → List ℕ → Bool
 wanted c r n t = nat_le r.first n && nat_le n r.final && holds c t
@@ -71,9 +71,9 @@ action_done s d (Ok e) = went s d e
 -- a list holds actions only: reading refuses all else there
 abbrev pub command_done : ℕ → Run → Addresses → Command → Run
 command_done room s a (act d) = action_done s d (doing (room - length s.out) s.world a d)
-command_done room s a appendText = stopped s NotInList
-command_done room s a quitSession = stopped s NotInList
-command_done room s a undoChange = stopped s NotInList
+command_done room s a append_text = stopped s NotInList
+command_done room s a quit_session = stopped s NotInList
+command_done room s a undo_change = stopped s NotInList
 command_done room s a (edit_file f) = stopped s NotInList
 command_done room s a (global c l) = stopped s NotInList
 

@@ -6,7 +6,7 @@ use Rattle.patterns.specs.Reading.{pattern_of}
 use Rattle.matching.specs.declared.answer.Match.{Match}
 use Rattle.matching.specs.Matching.{match_from}
 use Rattle.command.specs.Said.{Sought, Substitution}
-use Rattle.command.specs.Replacements.{Bit, theMatch, the_byte, theBreak, bits_of}
+use Rattle.command.specs.Replacements.{Bit, the_match, the_byte, the_break, bits_of}
 
 abbrev pub found_in : List ℕ → Result Pattern PatternFault → ℕ → Option Match
 found_in t (Err f) from = None
@@ -56,9 +56,9 @@ in_front a (l ∷ ls) = (a ++ l) ∷ ls
 -- a replacement filled in for one match, in front of what follows
 abbrev pub filled : List Bit → List ℕ → List (List ℕ) → List (List ℕ)
 filled [] m rest = rest
-filled (theMatch ∷ r) m rest = in_front m (filled r m rest)
+filled (the_match ∷ r) m rest = in_front m (filled r m rest)
 filled (the_byte b ∷ r) m rest = in_front (b ∷ []) (filled r m rest)
-filled (theBreak ∷ r) m rest = [] ∷ filled r m rest
+filled (the_break ∷ r) m rest = [] ∷ filled r m rest
 
 abbrev pub replaced : List Bit → List ℕ → ℕ → List Match → List (List ℕ)
 replaced r t from [] = drop from t ∷ []

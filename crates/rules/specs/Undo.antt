@@ -2,7 +2,7 @@
 use Rattle.std.specs.Prelude.{◌≡◌, ℕ, suc, false, List, Some, None, Ok}
 use Rattle.shelf.specs.Shelf.{Shelf}
 use Rattle.command.specs.declared.fault.Fault.TheVariants.{NothingToUndo}
-use Rattle.command.specs.Said.{Addresses, undoChange}
+use Rattle.command.specs.Said.{Addresses, undo_change}
 use Rattle.reading.specs.Commands.{said}
 use Rattle.rules.specs.Commands.{Kind, alteration, undoing, beginning, putting, stopping, reading, plain}
 use Rattle.rules.specs.Doing.{texts_of}
@@ -51,7 +51,7 @@ pub record AsksUndo (x : World) (h : Handed) : Type 0 where
   pub passes : entry_fault x h ≡ None
   pub whole : odd_tail false h.line ≡ false
   pub addresses : Addresses
-  pub reads : said (setting x false) h.line ≡ Ok (record { addresses = addresses; command = undoChange })
+  pub reads : said (setting x false) h.line ≡ Ok (record { addresses = addresses; command = undo_change })
 
 -- behind a change and quiet lines, `u` is accepted
 abbrev pub UndoReady : Type 0

@@ -4,7 +4,7 @@ use borrow.Rule.Slice.PartMut.{put_mid}
 use Rattle.std.proofs.lemmas.List.{length-append}
 use Rattle.std.proofs.lemmas.Slice.{take-put_mid}
 use Rattle.matching.specs.declared.answer.Match.{Match}
-use Rattle.command.specs.Replacements.{Bit, theMatch, the_byte, theBreak, bits_of}
+use Rattle.command.specs.Replacements.{Bit, the_match, the_byte, the_break, bits_of}
 use Rattle.command.specs.Said.{Substitution}
 use Rattle.rules.specs.Patterns.{matches_from, in_front, filled, replaced}
 use Rattle.substituting.specs.declared.cursor.Cursor.{Cursor}
@@ -34,9 +34,9 @@ put_in w a out n k full h g =
 front-filled : (bits : List Bit) (m : List ℕ) (r : List Bit) (t : List ℕ) (at : ℕ) (ms : List Match)
     → in_front [] (filled bits m (replaced r t at ms)) ≡ filled bits m (replaced r t at ms)
 front-filled [] m r t at ms = front-replaced r t at ms
-front-filled (theMatch ∷ bits) m r t at ms = front_front [] m _
+front-filled (the_match ∷ bits) m r t at ms = front_front [] m _
 front-filled (the_byte b ∷ bits) m r t at ms = front_front [] (b ∷ []) _
-front-filled (theBreak ∷ bits) m r t at ms = refl
+front-filled (the_break ∷ bits) m r t at ms = refl
 
 pub front_left : (s : Substitution) (t : List ℕ) (c : Cursor) → c.over ≡ false → in_front [] (lines_left s t c) ≡ lines_left s t c
 front_left s t c going =

@@ -2,7 +2,7 @@ use Rattle.std.proofs.Common.{◌≡◌, ℕ, ◌+◌, ◌≤◌, List, length, 
 use Rattle.command.specs.declared.fault.Fault.{Fault}
 use Rattle.command.specs.declared.said.Action.{Action}
 use Rattle.command.specs.View.{addresses_view, action_view, address_view, name_view}
-use Rattle.command.specs.Said.{deleteLines, mark_line, move_lines, printLines, printNext, write_file}
+use Rattle.command.specs.Said.{delete_lines, mark_line, move_lines, print_lines, print_next, write_file}
 use Rattle.reading.specs.Read.{Read}
 use Rattle.reading.specs.Views.{seen}
 use Rattle.rules.specs.Doing.{Done, doing}
@@ -24,7 +24,7 @@ returns-in-DeleteLines g c =
     let sheet = c.args.sheet.now in
     let room = room_in sheet c.args.at in
     let is = c.in-DeleteLines.is in
-    let d = doing room w a (deleteLines) in
+    let d = doing room w a (delete_lines) in
     let front = c.delete.result in
     let u = g.T.LineStore.meaning c.delete.new.text in
     record {
@@ -49,17 +49,17 @@ returns-in-MarkLine g c =
     let room = room_in sheet c.args.at in
     let is = c.in-MarkLine.is in
     let d = doing room w a (mark_line c.in-MarkLine.mark.letter) in
-    let front = c.mark-line.result in
-    let u = g.T.LineStore.meaning c.mark-line.new.text in
+    let front = c.mark_line.result in
+    let u = g.T.LineStore.meaning c.mark_line.new.text in
     record {
-      value = ap (λ (r : Result Acted Fault). seen {X = Acted} {A = ℕ} (λ x. x.at) r) c.silent-in-MarkLine.ensures ∙ silent_value front d c.args.at (c.mark-line.ensures.value h room)
+      value = ap (λ (r : Result Acted Fault). seen {X = Acted} {A = ℕ} (λ x. x.at) r) c.silent-in-MarkLine.ensures ∙ silent_value front d c.args.at (c.mark_line.ensures.value h room)
           ∙ ap (λ (x : Action). at_after c.args.at (doing room w a (action_view x))) (sym is);
-      world = c.mark-line.ensures.world h room ∙ ap (λ (x : Action). world_after c.args.role w (action_view x) (doing room w a (action_view x))) (sym is);
-      sheet = silent-sheet front d c.args.at sheet (omega (arith, c.requires.room)) (c.mark-line.ensures.value h room)
+      world = c.mark_line.ensures.world h room ∙ ap (λ (x : Action). world_after c.args.role w (action_view x) (doing room w a (action_view x))) (sym is);
+      sheet = silent-sheet front d c.args.at sheet (omega (arith, c.requires.room)) (c.mark_line.ensures.value h room)
           ∙ ap (λ (x : Action). sheet_after sheet c.args.at (doing room w a (action_view x))) (sym is);
-      seated = c.mark-line.ensures.seated;
+      seated = c.mark_line.ensures.seated;
       front = subst (λ (r : Result Acted Fault). IfOk r (λ x. FrontKept x.front (seen_lines t) (seen_lines u))) (sym c.silent-in-MarkLine.ensures)
-          (silent_front front c.args.at (seen_lines t) (seen_lines u) c.mark-line.ensures.front);
+          (silent_front front c.args.at (seen_lines t) (seen_lines u) c.mark_line.ensures.front);
     }
 
 pub returns-in-MoveLines : goal.returns-in-MoveLines
@@ -73,17 +73,17 @@ returns-in-MoveLines g c =
     let room = room_in sheet c.args.at in
     let is = c.in-MoveLines.is in
     let d = doing room w a (move_lines (address_view c.in-MoveLines.destination)) in
-    let front = c.move-lines.result in
-    let u = g.T.LineStore.meaning c.move-lines.new.text in
+    let front = c.move_lines.result in
+    let u = g.T.LineStore.meaning c.move_lines.new.text in
     record {
-      value = ap (λ (r : Result Acted Fault). seen {X = Acted} {A = ℕ} (λ x. x.at) r) c.silent-in-MoveLines.ensures ∙ silent_value front d c.args.at (c.move-lines.ensures.value h room)
+      value = ap (λ (r : Result Acted Fault). seen {X = Acted} {A = ℕ} (λ x. x.at) r) c.silent-in-MoveLines.ensures ∙ silent_value front d c.args.at (c.move_lines.ensures.value h room)
           ∙ ap (λ (x : Action). at_after c.args.at (doing room w a (action_view x))) (sym is);
-      world = c.move-lines.ensures.world h room ∙ ap (λ (x : Action). world_after c.args.role w (action_view x) (doing room w a (action_view x))) (sym is);
-      sheet = silent-sheet front d c.args.at sheet (omega (arith, c.requires.room)) (c.move-lines.ensures.value h room)
+      world = c.move_lines.ensures.world h room ∙ ap (λ (x : Action). world_after c.args.role w (action_view x) (doing room w a (action_view x))) (sym is);
+      sheet = silent-sheet front d c.args.at sheet (omega (arith, c.requires.room)) (c.move_lines.ensures.value h room)
           ∙ ap (λ (x : Action). sheet_after sheet c.args.at (doing room w a (action_view x))) (sym is);
-      seated = c.move-lines.ensures.seated;
+      seated = c.move_lines.ensures.seated;
       front = subst (λ (r : Result Acted Fault). IfOk r (λ x. FrontKept x.front (seen_lines t) (seen_lines u))) (sym c.silent-in-MoveLines.ensures)
-          (silent_front front c.args.at (seen_lines t) (seen_lines u) c.move-lines.ensures.front);
+          (silent_front front c.args.at (seen_lines t) (seen_lines u) c.move_lines.ensures.front);
     }
 
 pub returns-in-PrintLines : goal.returns-in-PrintLines
@@ -96,12 +96,12 @@ returns-in-PrintLines g c =
     let sheet = c.args.sheet.now in
     let room = room_in sheet c.args.at in
     let is = c.in-PrintLines.is in
-    let d = doing room w a (printLines) in
+    let d = doing room w a (print_lines) in
     let at = c.print.result in
     record {
       value = ap (λ (r : Result Acted Fault). seen {X = Acted} {A = ℕ} (λ x. x.at) r) c.shown.ensures ∙ shown_value at (length t.lines) ∙ c.print.ensures.value k h
           ∙ ap (λ (x : Action). at_after c.args.at (doing room w a (action_view x))) (sym is);
-      world = c.print.ensures.world k h ∙ not_change c.args.role w (printLines) d refl
+      world = c.print.ensures.world k h ∙ not_change c.args.role w (print_lines) d refl
           ∙ ap (λ (x : Action). world_after c.args.role w (action_view x) (doing room w a (action_view x))) (sym is);
       sheet = c.print.ensures.sheet k h ∙ ap (λ (x : Action). sheet_after sheet c.args.at (doing room w a (action_view x))) (sym is);
       seated = record {
@@ -123,18 +123,18 @@ returns-in-PrintNext g c =
     let sheet = c.args.sheet.now in
     let room = room_in sheet c.args.at in
     let is = c.in-PrintNext.is in
-    let d = doing room w a (printNext) in
-    let at = c.print-next.result in
+    let d = doing room w a (print_next) in
+    let at = c.print_next.result in
     record {
-      value = ap (λ (r : Result Acted Fault). seen {X = Acted} {A = ℕ} (λ x. x.at) r) c.shown-in-PrintNext.ensures ∙ shown_value at (length t.lines) ∙ c.print-next.ensures.value k h
+      value = ap (λ (r : Result Acted Fault). seen {X = Acted} {A = ℕ} (λ x. x.at) r) c.shown-in-PrintNext.ensures ∙ shown_value at (length t.lines) ∙ c.print_next.ensures.value k h
           ∙ ap (λ (x : Action). at_after c.args.at (doing room w a (action_view x))) (sym is);
-      world = c.print-next.ensures.world k h ∙ not_change c.args.role w (printNext) d refl
+      world = c.print_next.ensures.world k h ∙ not_change c.args.role w (print_next) d refl
           ∙ ap (λ (x : Action). world_after c.args.role w (action_view x) (doing room w a (action_view x))) (sym is);
-      sheet = c.print-next.ensures.sheet k h ∙ ap (λ (x : Action). sheet_after sheet c.args.at (doing room w a (action_view x))) (sym is);
+      sheet = c.print_next.ensures.sheet k h ∙ ap (λ (x : Action). sheet_after sheet c.args.at (doing room w a (action_view x))) (sym is);
       seated = record {
-        text = c.print-next.ensures.capacity ∙ c.requires.seated.text;
-        keep = c.print-next.ensures.capacity ∙ c.requires.seated.keep;
-        within = c.print-next.ensures.within;
+        text = c.print_next.ensures.capacity ∙ c.requires.seated.text;
+        keep = c.print_next.ensures.capacity ∙ c.requires.seated.keep;
+        within = c.print_next.ensures.within;
       };
       front = subst (λ (r : Result Acted Fault). IfOk r (λ x. FrontKept x.front (seen_lines t) (seen_lines t))) (sym c.shown-in-PrintNext.ensures)
           (shown_front at (length t.lines) (seen_lines t));

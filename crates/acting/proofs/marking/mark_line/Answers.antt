@@ -36,24 +36,24 @@ returns g c =
     let b = is_listed c.args.role in
     let o = kept_line c.args.role c.args.session.now.current in
     let t = g.T.LineStore.meaning c.args.text.now in
-    let u = g.T.LineStore.meaning c.set-mark.new.text in
+    let u = g.T.LineStore.meaning c.set_mark.new.text in
     let none = empty_shelf 0 in
     let ls = mark_on c.in-Ok.n (bit_of m) (seen_lines t) in
-    let cur : c.keep-if-listed.new.session.current ≡ c.args.session.now.current = ap (λ (v : World). v.text.current) (c.keep-if-listed.ensures.world none) ∙ changed-current b o (w none) in
+    let cur : c.keep_if_listed.new.session.current ≡ c.args.session.now.current = ap (λ (v : World). v.text.current) (c.keep_if_listed.ensures.world none) ∙ changed-current b o (w none) in
     let d : (h : Shelf) (room : ℕ) → doing room (w h) a (mark_line m) ≡ done (with_text (page ls c.args.session.now.current) (w h)) [] = λ h room.
     mark_done room (w h) a m c.in-Ok.n (sym c.in-Ok.ensures.value) in
     record {
       value = λ h room. sym (ap out_of (d h room));
       world = λ h room.
-          ap (λ (ks : List Line). with_text (page ks c.keep-if-listed.new.session.current) (world_of c.keep-if-listed.new.session t (g.K.LineStore.meaning c.keep-if-listed.new.keep) h)) c.set-mark.ensures.lines
-          ∙ ap (λ (n : ℕ). with_text (page ls n) (world_of c.keep-if-listed.new.session t (g.K.LineStore.meaning c.keep-if-listed.new.keep) h)) cur
-          ∙ ap (λ (v : World). with_text (page ls c.args.session.now.current) v) (c.keep-if-listed.ensures.world h)
+          ap (λ (ks : List Line). with_text (page ks c.keep_if_listed.new.session.current) (world_of c.keep_if_listed.new.session t (g.K.LineStore.meaning c.keep_if_listed.new.keep) h)) c.set_mark.ensures.lines
+          ∙ ap (λ (n : ℕ). with_text (page ls n) (world_of c.keep_if_listed.new.session t (g.K.LineStore.meaning c.keep_if_listed.new.keep) h)) cur
+          ∙ ap (λ (v : World). with_text (page ls c.args.session.now.current) v) (c.keep_if_listed.ensures.world h)
           ∙ changed_text b o (w h) (page ls c.args.session.now.current)
           ∙ sym (ap (world_after c.args.role (w h) (mark_line m)) (d h room));
       seated = record {
-        text = c.keep-if-listed.ensures.seated.text ∙ sym c.set-mark.ensures.capacity;
-        keep = c.keep-if-listed.ensures.seated.keep;
-        within = omega (arith, c.keep-if-listed.ensures.seated.within, c.set-mark.ensures.count);
+        text = c.keep_if_listed.ensures.seated.text ∙ sym c.set_mark.ensures.capacity;
+        keep = c.keep_if_listed.ensures.seated.keep;
+        within = omega (arith, c.keep_if_listed.ensures.seated.within, c.set_mark.ensures.count);
       };
-      front = subst (λ (ks : List Line). FrontKept c.count.result (seen_lines t) ks) (sym c.set-mark.ensures.lines) (front-marked c.count.result c.in-Ok.n (bit_of m) (seen_lines t));
+      front = subst (λ (ks : List Line). FrontKept c.count.result (seen_lines t) ks) (sym c.set_mark.ensures.lines) (front-marked c.count.result c.in-Ok.n (bit_of m) (seen_lines t));
     }

@@ -2,7 +2,7 @@ use Rattle.std.proofs.Common.{◌≡◌, ℕ, suc, ◌+◌, ◌≤◌, true, fal
 use Rattle.lines.specs.Store.{Store}
 use Rattle.shelf.specs.Shelf.{Shelf}
 use Rattle.command.specs.declared.fault.Fault.TheVariants.{SheetFull}
-use Rattle.command.specs.Said.{printLines, printNext, printNumber}
+use Rattle.command.specs.Said.{print_lines, print_next, print_number}
 use Rattle.command.specs.View.{addresses_view}
 use Rattle.printing.specs.Sheets.{written}
 use Rattle.ranges.specs.Spans.{span_of}
@@ -28,8 +28,8 @@ returns-in-Err g c =
     let a = addresses_view c.args.addresses in
     let sheet = c.args.sheet.now in
     let room = room_in sheet c.args.at in
-    let d : (k : Store) (h : Shelf) → doing room (world_of s t k h) a printLines ≡ Err c.in-Err.fault = λ k h.
-    refused room (world_of s t k h) a printLines _ (print-refused room (world_of s t k h) a _ (sym c.in-Err.ensures.value)) in
+    let d : (k : Store) (h : Shelf) → doing room (world_of s t k h) a print_lines ≡ Err c.in-Err.fault = λ k h.
+    refused room (world_of s t k h) a print_lines _ (print-refused room (world_of s t k h) a _ (sym c.in-Err.ensures.value)) in
     record {
       value = λ k h. sym (ap (at_after c.args.at) (d k h));
       world = λ k h. sym (ap (done_world (world_of s t k h)) (d k h));
@@ -46,12 +46,12 @@ returns g c =
     let r = c.in-Ok.range in
     let sheet = c.args.sheet.now in
     let room = room_in sheet c.args.at in
-    let d : (k : Store) (h : Shelf) → doing room (world_of s t k h) a printLines ≡ perform room (world_of s t k h) (shows r.last (printed (from_to r.first r.last (seen_lines t)))) = λ k h.
-    does room (world_of s t k h) a printLines _ (print_effect room (world_of s t k h) a (span_of r) (sym c.in-Ok.ensures.value)) in
+    let d : (k : Store) (h : Shelf) → doing room (world_of s t k h) a print_lines ≡ perform room (world_of s t k h) (shows r.last (printed (from_to r.first r.last (seen_lines t)))) = λ k h.
+    does room (world_of s t k h) a print_lines _ (print_effect room (world_of s t k h) a (span_of r) (sym c.in-Ok.ensures.value)) in
     record {
-      value = λ k h. c.show-range.ensures.value k h ∙ sym (ap (at_after c.args.at) (d k h));
-      world = λ k h. c.show-range.ensures.world k h ∙ sym (ap (done_world (world_of s t k h)) (d k h));
-      sheet = λ k h. c.show-range.ensures.sheet k h ∙ sym (ap (sheet_after sheet c.args.at) (d k h));
-      within = elim c.show-range.ensures.current [ inl e ↦ omega (arith, e, r.within, c.in-Ok.ensures.count) | inr e ↦ subst (λ (x : Session). x.current ≤ length t.lines) (sym e) c.requires.within ];
-      capacity = c.show-range.ensures.capacity;
+      value = λ k h. c.show_range.ensures.value k h ∙ sym (ap (at_after c.args.at) (d k h));
+      world = λ k h. c.show_range.ensures.world k h ∙ sym (ap (done_world (world_of s t k h)) (d k h));
+      sheet = λ k h. c.show_range.ensures.sheet k h ∙ sym (ap (sheet_after sheet c.args.at) (d k h));
+      within = elim c.show_range.ensures.current [ inl e ↦ omega (arith, e, r.within, c.in-Ok.ensures.count) | inr e ↦ subst (λ (x : Session). x.current ≤ length t.lines) (sym e) c.requires.within ];
+      capacity = c.show_range.ensures.capacity;
     }

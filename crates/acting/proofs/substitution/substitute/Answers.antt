@@ -39,8 +39,8 @@ returns-in-Err g c =
       front = tt;
     }
 
-pub returns-in-Err-check-made : goal.returns-in-Err-check-made
-returns-in-Err-check-made g c =
+pub returns-in-Err-check_made : goal.returns-in-Err-check_made
+returns-in-Err-check_made g c =
     let t = g.T.LineStore.meaning c.args.text.now in
     let w : Shelf → World = λ h. world_of c.args.session.now t (g.K.LineStore.meaning c.args.keep.now) h in
     let a = addresses_view c.args.addresses in
@@ -57,9 +57,9 @@ returns-in-Err-check-made g c =
       sized = c.reckon-made.ensures.size;
       small = omega (arith, c.requires.seated.text, (g.met.T.LineStore.sound c.args.text.now).bounded);
     } in
-    let e : Err c.in-Err-check-made.fault ≡ checked (leb 1 m.last) (leb m.count c.args.session.now.capacity) m.fits (leb (cond s.print m.last_size 0) room) (cond s.print m.last_size 0)
-    = c.in-Err-check-made.ensures ∙ ap (λ (k : ℕ). checked (leb 1 m.last) (leb m.count k) m.fits (leb (cond s.print m.last_size 0) room) (cond s.print m.last_size 0)) cap in
-    let d : (h : Shelf) → doing room (w h) a (substitute s) ≡ Err c.in-Err-check-made.fault = λ h.
+    let e : Err c.in-Err-check_made.fault ≡ checked (leb 1 m.last) (leb m.count c.args.session.now.capacity) m.fits (leb (cond s.print m.last_size 0) room) (cond s.print m.last_size 0)
+    = c.in-Err-check_made.ensures ∙ ap (λ (k : ℕ). checked (leb 1 m.last) (leb m.count k) m.fits (leb (cond s.print m.last_size 0) room) (cond s.print m.last_size 0)) cap in
+    let d : (h : Shelf) → doing room (w h) a (substitute s) ≡ Err c.in-Err-check_made.fault = λ h.
     made_does (w h) (span_of c.in-Ok.range) s m.count m.last m.last_size m.fits (q h) room a (sym c.in-Ok.ensures.value)
     ∙ ap (λ (x : Read ℕ). x >> done (with_text (page (after c.args.substitution c.in-Ok.range t) (last_new 0 0 (pieces_of c.args.substitution c.in-Ok.range t))) (w h))
     (cond s.print (printed (picked (after c.args.substitution c.in-Ok.range t) (last_new 0 0 (pieces_of c.args.substitution c.in-Ok.range t)))) [])) (sym e) in
@@ -71,8 +71,8 @@ returns-in-Err-check-made g c =
       front = tt;
     }
 
-pub print-if-requires : goal.print-if-requires
-print-if-requires g c =
+pub print_if-requires : goal.print_if-requires
+print_if-requires g c =
     let t = g.T.LineStore.meaning c.args.text.now in
     let u = g.T.LineStore.meaning c.rewrite.new.text in
     let w : Shelf → World = λ h. world_of c.args.session.now t (g.K.LineStore.meaning c.args.keep.now) h in
@@ -93,9 +93,9 @@ print-if-requires g c =
       sized = c.reckon-made.ensures.size;
       small = omega (arith, c.requires.seated.text, (g.met.T.LineStore.sound c.args.text.now).bounded);
     } in
-    let e : Ok c.in-Ok-check-made.size ≡ checked (leb 1 m.last) (leb m.count c.args.session.now.capacity) m.fits (leb (cond s.print m.last_size 0) room) (cond s.print m.last_size 0)
-    = c.in-Ok-check-made.ensures ∙ ap (λ (k : ℕ). checked (leb 1 m.last) (leb m.count k) m.fits (leb (cond s.print m.last_size 0) room) (cond s.print m.last_size 0)) cap in
-    let p = passed (leb 1 m.last) (leb m.count c.args.session.now.capacity) m.fits (leb (cond s.print m.last_size 0) room) (cond s.print m.last_size 0) c.in-Ok-check-made.size e in
+    let e : Ok c.in-Ok-check_made.size ≡ checked (leb 1 m.last) (leb m.count c.args.session.now.capacity) m.fits (leb (cond s.print m.last_size 0) room) (cond s.print m.last_size 0)
+    = c.in-Ok-check_made.ensures ∙ ap (λ (k : ℕ). checked (leb 1 m.last) (leb m.count k) m.fits (leb (cond s.print m.last_size 0) room) (cond s.print m.last_size 0)) cap in
+    let p = passed (leb 1 m.last) (leb m.count c.args.session.now.capacity) m.fits (leb (cond s.print m.last_size 0) room) (cond s.print m.last_size 0) c.in-Ok-check_made.size e in
     let last : m.last ≡ n = same_last (w none) (span_of c.in-Ok.range) s m.count m.last m.last_size m.fits (q none) p.few in
     let size : cond s.print m.last_size 0 ≡ length (cond s.print (printed (picked ls n)) []) = same_size (w none) (span_of c.in-Ok.range) s m.count m.last m.last_size m.fits (q none) p.some p.few p.fits in
     let out : cond s.print (printed (picked (seen_lines u) m.last)) [] ≡ cond s.print (printed (picked ls n)) []
@@ -127,9 +127,9 @@ returns g c =
       sized = c.reckon-made.ensures.size;
       small = omega (arith, c.requires.seated.text, (g.met.T.LineStore.sound c.args.text.now).bounded);
     } in
-    let e : Ok c.in-Ok-check-made.size ≡ checked (leb 1 m.last) (leb m.count c.args.session.now.capacity) m.fits (leb (cond s.print m.last_size 0) room) (cond s.print m.last_size 0)
-    = c.in-Ok-check-made.ensures ∙ ap (λ (k : ℕ). checked (leb 1 m.last) (leb m.count k) m.fits (leb (cond s.print m.last_size 0) room) (cond s.print m.last_size 0)) cap in
-    let p = passed (leb 1 m.last) (leb m.count c.args.session.now.capacity) m.fits (leb (cond s.print m.last_size 0) room) (cond s.print m.last_size 0) c.in-Ok-check-made.size e in
+    let e : Ok c.in-Ok-check_made.size ≡ checked (leb 1 m.last) (leb m.count c.args.session.now.capacity) m.fits (leb (cond s.print m.last_size 0) room) (cond s.print m.last_size 0)
+    = c.in-Ok-check_made.ensures ∙ ap (λ (k : ℕ). checked (leb 1 m.last) (leb m.count k) m.fits (leb (cond s.print m.last_size 0) room) (cond s.print m.last_size 0)) cap in
+    let p = passed (leb 1 m.last) (leb m.count c.args.session.now.capacity) m.fits (leb (cond s.print m.last_size 0) room) (cond s.print m.last_size 0) c.in-Ok-check_made.size e in
     let last : m.last ≡ n = same_last (w none) (span_of c.in-Ok.range) s m.count m.last m.last_size m.fits (q none) p.few in
     let size : cond s.print m.last_size 0 ≡ length (cond s.print (printed (picked ls n)) []) = same_size (w none) (span_of c.in-Ok.range) s m.count m.last m.last_size m.fits (q none) p.some p.few p.fits in
     let out : cond s.print (printed (picked (seen_lines u) m.last)) [] ≡ cond s.print (printed (picked ls n)) []
@@ -140,15 +140,15 @@ returns g c =
     record {
       value = λ h. ap (λ (k : ℕ). Ok (c.args.at + k)) (sym p.size ∙ size) ∙ sym (ap (at_after c.args.at) (d h));
       world = λ h.
-          ap (λ (v : World). with_unsaved true (with_text (page (seen_lines u) m.last) v)) (c.keep-text.ensures.world h)
+          ap (λ (v : World). with_unsaved true (with_text (page (seen_lines u) m.last) v)) (c.keep_text.ensures.world h)
           ∙ keeping-alters (kept_line c.args.role c.args.session.now.current) (w h) (page (seen_lines u) m.last)
           ∙ ap (λ (xs : List Line). world_after c.args.role (w h) (substitute s) (done (with_text (page xs m.last) (w h)) [])) c.rewrite.ensures.lines
           ∙ ap (λ (k : ℕ). world_after c.args.role (w h) (substitute s) (done (with_text (page ls k) (w h)) [])) last
           ∙ sym (ap (world_after c.args.role (w h) (substitute s)) (d h));
-      sheet = λ h. c.print-if.ensures ∙ ap (written sheet c.args.at) out ∙ sym (ap (sheet_after sheet c.args.at) (d h));
+      sheet = λ h. c.print_if.ensures ∙ ap (written sheet c.args.at) out ∙ sym (ap (sheet_after sheet c.args.at) (d h));
       seated = record {
-        text = c.keep-text.ensures.seated.text ∙ sym c.rewrite.ensures.capacity;
-        keep = c.keep-text.ensures.seated.keep;
+        text = c.keep_text.ensures.seated.text ∙ sym c.rewrite.ensures.capacity;
+        keep = c.keep_text.ensures.seated.keep;
         within = omega (arith, last, c.reckon-made.ensures.within, ap length c.rewrite.ensures.lines, length_seen u);
       };
       front = front_kept (c.in-Ok.range.first - 1) (seen_lines t) (seen_lines u) c.rewrite.ensures.front;

@@ -39,8 +39,8 @@ returns-in-Err g c =
       kept = (refl, refl);
     }
 
-pub returns-in-default : goal.returns-in-default
-returns-in-default g c =
+pub returns-in_default : goal.returns-in_default
+returns-in_default g c =
     let t = g.T.LineStore.meaning c.args.text.now in
     let w : Store → World = λ k. world_of c.args.session.now t k (g.S.Shelf.meaning c.args.shelf.now) in
     let a = addresses_view c.args.addresses in
@@ -48,7 +48,7 @@ returns-in-default g c =
     let sheet = c.args.sheet.now in
     let room = room_in sheet c.args.at in
     let none : (k : Store) → name_of (w k) f ≡ Err NoName = λ k.
-    ap (λ (x : FileNameCode). name_of (w k) (name_view x)) c.in-Remembered.is ∙ ap (λ (o : Option Label). or_fault NoName (option_map text_of o)) c.in-default.is in
+    ap (λ (x : FileNameCode). name_of (w k) (name_view x)) c.in-Remembered.is ∙ ap (λ (o : Option Label). or_fault NoName (option_map text_of o)) c.in_default.is in
     let d : (k : Store) → doing room (w k) a (write_file f) ≡ Err NoName = λ k. refused room (w k) a (write_file f) _ (write_nameless room (w k) a f _ _ (sym c.in-Ok.ensures.value) (none k)) in
     record {
       value = λ k. sym (ap (at_after c.args.at) (d k));
@@ -73,10 +73,10 @@ returns-in-Given g c =
     does room (w k) a (write_file f) _ (write_effect room (w k) a f (span_or r) n (sym c.in-Ok.ensures.value) (named k))
     ∙ ap (λ (m : ℕ). perform room (w k) (files n x (is_whole (span_or r) m) (numbered (length x)))) (length_seen t) in
     record {
-      value = λ k. c.write-named.ensures.value k ∙ sym (ap (at_after c.args.at) (d k));
-      world = λ k. c.write-named.ensures.world k ∙ sym (ap (done_world (w k)) (d k));
-      sheet = λ k. c.write-named.ensures.sheet k ∙ sym (ap (sheet_after sheet c.args.at) (d k));
-      kept = c.write-named.ensures.kept;
+      value = λ k. c.write_named.ensures.value k ∙ sym (ap (at_after c.args.at) (d k));
+      world = λ k. c.write_named.ensures.world k ∙ sym (ap (done_world (w k)) (d k));
+      sheet = λ k. c.write_named.ensures.sheet k ∙ sym (ap (sheet_after sheet c.args.at) (d k));
+      kept = c.write_named.ensures.kept;
     }
 
 pub returns-in-Some : goal.returns-in-Some
@@ -98,8 +98,8 @@ returns-in-Some g c =
     does room (w k) a (write_file f) _ (write_effect room (w k) a f (span_or r) n (sym c.in-Ok.ensures.value) (named k))
     ∙ ap (λ (m : ℕ). perform room (w k) (files n x (is_whole (span_or r) m) (numbered (length x)))) (length_seen t) in
     record {
-      value = λ k. c.write-named-in-Remembered.ensures.value k ∙ sym (ap (at_after c.args.at) (d k));
-      world = λ k. c.write-named-in-Remembered.ensures.world k ∙ sym (ap (done_world (w k)) (d k));
-      sheet = λ k. c.write-named-in-Remembered.ensures.sheet k ∙ sym (ap (sheet_after sheet c.args.at) (d k));
-      kept = c.write-named-in-Remembered.ensures.kept;
+      value = λ k. c.write_named-in-Remembered.ensures.value k ∙ sym (ap (at_after c.args.at) (d k));
+      world = λ k. c.write_named-in-Remembered.ensures.world k ∙ sym (ap (done_world (w k)) (d k));
+      sheet = λ k. c.write_named-in-Remembered.ensures.sheet k ∙ sym (ap (sheet_after sheet c.args.at) (d k));
+      kept = c.write_named-in-Remembered.ensures.kept;
     }

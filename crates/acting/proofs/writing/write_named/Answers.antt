@@ -17,16 +17,16 @@ use Rattle.acting.proofs.Deeds.{files_full, files-refused, files-done}
 use Rattle.acting.proofs.Filed.{answer-refused, answer-accepted, filed_label}
 use Rattle.acting.proofs.writing.write_named.Goals as goal
 
-pub returns-then-not-fits-sheet : goal.returns-then-not-fits-sheet
-returns-then-not-fits-sheet g c =
+pub returns-then-not-fits_sheet : goal.returns-then-not-fits_sheet
+returns-then-not-fits_sheet g c =
     let t = g.T.LineStore.meaning c.args.text.now in
     let w : Store → World = λ k. world_of c.args.session.now t k (g.S.Shelf.meaning c.args.shelf.now) in
     let x = contents_from c.args.range t in
     let all = is_whole (span_or c.args.range) (length t.lines) in
     let sheet = c.args.sheet.now in
     let room = room_in sheet c.args.at in
-    let same : c.number-size-printed.result ≡ length (numbered (length x)) = c.number-size-printed.ensures ∙ ap (λ (n : ℕ). length (numbered n)) c.file-size-size.ensures.value in
-    let full : leb (length (numbered (length x))) room ≡ false = ap (λ (n : ℕ). leb n room) (sym same) ∙ sym c.if-not-fits-sheet.ensures in
+    let same : c.number_size-printed.result ≡ length (numbered (length x)) = c.number_size-printed.ensures ∙ ap (λ (n : ℕ). length (numbered n)) c.file_size-size.ensures.value in
+    let full : leb (length (numbered (length x))) room ≡ false = ap (λ (n : ℕ). leb n room) (sym same) ∙ sym c.if-not-fits_sheet.ensures in
     let d : (k : Store) → perform room (w k) (files c.args.name.now x all (numbered (length x))) ≡ Err SheetFull = λ k. files_full room (w k) c.args.name.now x all (numbered (length x)) full in
     record {
       value = λ k. sym (ap (at_after c.args.at) (d k));
@@ -35,8 +35,8 @@ returns-then-not-fits-sheet g c =
       kept = (refl, refl);
     }
 
-pub note-written-requires : goal.note-written-requires
-note-written-requires g c =
+pub note_written-requires : goal.note_written-requires
+note_written-requires g c =
     let t = g.T.LineStore.meaning c.args.text.now in
     let x = filed (g.S.Shelf.meaning c.args.shelf.now) c.args.name.now (contents_from c.args.range t) in
     filed_label (g.S.Shelf.meaning c.args.shelf.now) c.args.name.now (contents_from c.args.range t) _
@@ -51,11 +51,11 @@ returns-in-Err g c =
     let all = is_whole (span_or c.args.range) (length t.lines) in
     let sheet = c.args.sheet.now in
     let room = room_in sheet c.args.at in
-    let same : c.number-size-printed.result ≡ length (numbered (length x)) = c.number-size-printed.ensures ∙ ap (λ (n : ℕ). length (numbered n)) c.file-size-size.ensures.value in
-    let fit : leb (length (numbered (length x))) room ≡ true = ap (λ (n : ℕ). leb n room) (sym same) ∙ sym c.if-not-fits-sheet.ensures in
+    let same : c.number_size-printed.result ≡ length (numbered (length x)) = c.number_size-printed.ensures ∙ ap (λ (n : ℕ). length (numbered n)) c.file_size-size.ensures.value in
+    let fit : leb (length (numbered (length x))) room ≡ true = ap (λ (n : ℕ). leb n room) (sym same) ∙ sym c.if-not-fits_sheet.ensures in
     let no : filed s c.args.name.now x ≡ Err c.in-Err.fault = answer-refused (filed s c.args.name.now x) c.in-Err.fault c.in-Err.ensures.value in
     let d : (k : Store) → perform room (w k) (files c.args.name.now x all (numbered (length x))) ≡ Err c.in-Err.fault = λ k. files-refused room (w k) c.args.name.now x all (numbered (length x)) _ fit no in
-    let kept : g.S.Shelf.meaning c.write-file.new.shelf ≡ s = c.in-Err.ensures.shelf ∙ ap (shelf_after s) no in
+    let kept : g.S.Shelf.meaning c.write_file.new.shelf ≡ s = c.in-Err.ensures.shelf ∙ ap (shelf_after s) no in
     record {
       value = λ k. sym (ap (at_after c.args.at) (d k));
       world = λ k. ap (λ (h : Shelf). world_of c.args.session.now t k h) kept ∙ sym (ap (done_world (w k)) (d k));
@@ -67,21 +67,21 @@ pub returns : goal.returns
 returns g c =
     let t = g.T.LineStore.meaning c.args.text.now in
     let s = g.S.Shelf.meaning c.args.shelf.now in
-    let v = g.S.Shelf.meaning c.write-file.new.shelf in
+    let v = g.S.Shelf.meaning c.write_file.new.shelf in
     let w : Store → World = λ k. world_of c.args.session.now t k s in
     let x = contents_from c.args.range t in
     let n = c.args.name.now in
     let all = is_whole (span_or c.args.range) (length t.lines) in
     let sheet = c.args.sheet.now in
     let room = room_in sheet c.args.at in
-    let same : c.number-size-printed.result ≡ length (numbered (length x)) = c.number-size-printed.ensures ∙ ap (λ (n : ℕ). length (numbered n)) c.file-size-size.ensures.value in
-    let fit : leb (length (numbered (length x))) room ≡ true = ap (λ (n : ℕ). leb n room) (sym same) ∙ sym c.if-not-fits-sheet.ensures in
+    let same : c.number_size-printed.result ≡ length (numbered (length x)) = c.number_size-printed.ensures ∙ ap (λ (n : ℕ). length (numbered n)) c.file_size-size.ensures.value in
+    let fit : leb (length (numbered (length x))) room ≡ true = ap (λ (n : ℕ). leb n room) (sym same) ∙ sym c.if-not-fits_sheet.ensures in
     let yes : filed s n x ≡ Ok v = answer-accepted s (filed s n x) c.in-Ok.ensures.value ∙ ap (λ (h : Shelf). Ok h) (sym c.in-Ok.ensures.shelf) in
-    let whole : c.is-whole-whole.result ≡ all = c.is-whole-whole.ensures ∙ ap (is_whole (span_or c.args.range)) c.count.ensures in
+    let whole : c.is_whole-whole.result ≡ all = c.is_whole-whole.ensures ∙ ap (is_whole (span_or c.args.range)) c.count.ensures in
     let d : (k : Store) → perform room (w k) (files n x all (numbered (length x))) ≡ done (with_file v n all (w k)) (numbered (length x)) = λ k. files-done room (w k) n x all (numbered (length x)) v fit yes in
     record {
       value = λ k. ap (λ (m : ℕ). Ok (c.args.at + m)) same ∙ sym (ap (at_after c.args.at) (d k));
-      world = λ k. c.note-written.ensures.world t k s v ∙ ap (λ (b : Bool). with_file v n b (w k)) whole ∙ sym (ap (done_world (w k)) (d k));
-      sheet = λ k. c.print-number.ensures ∙ ap (λ (m : ℕ). written sheet c.args.at (numbered m)) c.file-size-size.ensures.value ∙ sym (ap (sheet_after sheet c.args.at) (d k));
-      kept = c.note-written.ensures.kept;
+      world = λ k. c.note_written.ensures.world t k s v ∙ ap (λ (b : Bool). with_file v n b (w k)) whole ∙ sym (ap (done_world (w k)) (d k));
+      sheet = λ k. c.print_number.ensures ∙ ap (λ (m : ℕ). written sheet c.args.at (numbered m)) c.file_size-size.ensures.value ∙ sym (ap (sheet_after sheet c.args.at) (d k));
+      kept = c.note_written.ensures.kept;
     }

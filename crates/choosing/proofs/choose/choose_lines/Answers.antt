@@ -4,18 +4,18 @@ use Rattle.ranges.specs.Spans.{span_or}
 use Rattle.rules.specs.Globals.{wanted, one_if}
 use Rattle.choosing.proofs.Choosing.{walked_more, walked_lines, walked_count, one_more, none_more}
 use Rattle.choosing.proofs.choose.choose_lines.Goals as goal
-use Rattle.choosing.proofs.choose.choose_lines.Goals.{then-choose-line, else-choose-line}
+use Rattle.choosing.proofs.choose.choose_lines.Goals.{then-choose_line, else-choose_line}
 
 pub loop-i-preserved : goal.loop-i-preserved
 loop-i-preserved g c =
-    let one : c.if-choose-line.chosen ≡ c.loop-i.chosen + one_if c.choose-line.result =
-    elim c.if-choose-line.branch [
-      | then-choose-line w ↦ one_more c.choose-line.result _ _ w.if-choose-line.true w.chosen-is
-      | else-choose-line w ↦ none_more c.choose-line.result _ _ w.if-choose-line.false w.chosen-is
+    let one : c.if-choose_line.chosen ≡ c.loop-i.chosen + one_if c.choose_line.result =
+    elim c.if-choose_line.branch [
+      | then-choose_line w ↦ one_more c.choose_line.result _ _ w.if-choose_line.true w.chosen-is
+      | else-choose_line w ↦ none_more c.choose_line.result _ _ w.if-choose_line.false w.chosen-is
     ] in
-    walked_more (wanted (chooser_view c.args.chooser) (span_or c.args.range)) c.loop-i.i _ _ _ _ _ c.choose-line.result
-    c.loop-i.invariant (omega arith) c.choose-line.ensures.value c.choose-line.ensures.lines c.choose-line.ensures.size
-    c.choose-line.ensures.capacity one
+    walked_more (wanted (chooser_view c.args.chooser) (span_or c.args.range)) c.loop-i.i _ _ _ _ _ c.choose_line.result
+    c.loop-i.invariant (omega arith) c.choose_line.ensures.value c.choose_line.ensures.lines c.choose_line.ensures.size
+    c.choose_line.ensures.capacity one
 
 pub returns : goal.returns
 returns g c =

@@ -39,10 +39,10 @@ returns g c =
     record {
       value = λ h. sym (ap (λ (o : Outcome). o.fault) (d h));
       world = λ h.
-          ap done (c.put-behind-current.ensures.world (g.K.LineStore.meaning c.keep-before.new.keep) h)
-          ∙ ap (λ (n : ℕ). done (with_text (typed_in (page (seen_lines t) n) line) (world_of c.keep-before.new.session t (g.K.LineStore.meaning c.keep-before.new.keep) h))) c.keep-before.ensures.current
-          ∙ ap (λ (v : World). done (with_text (typed_in (w h).text line) v)) (c.keep-before.ensures.world h)
+          ap done (c.put_behind_current.ensures.world (g.K.LineStore.meaning c.keep_before.new.keep) h)
+          ∙ ap (λ (n : ℕ). done (with_text (typed_in (page (seen_lines t) n) line) (world_of c.keep_before.new.session t (g.K.LineStore.meaning c.keep_before.new.keep) h))) c.keep_before.ensures.current
+          ∙ ap (λ (v : World). done (with_text (typed_in (w h).text line) v)) (c.keep_before.ensures.world h)
           ∙ sym (ap (λ (o : Outcome). o.world) (d h));
-      text = c.put-behind-current.ensures.text;
-      keep = c.keep-before.ensures.keep;
+      text = c.put_behind_current.ensures.text;
+      keep = c.keep_before.ensures.keep;
     }

@@ -22,12 +22,12 @@ returns-in-Given g c =
     let named : name_of w n ≡ Ok f = ap (λ (x : FileNameCode). name_of w (name_view x)) c.in-Given.is in
     let d : edited (length sheet - 16) w n ≡ read_named (length sheet - 16) w f = edited-named (length sheet - 16) w n f (sym c.in-Ok.ensures) named in
     record {
-      value = c.edit-named.ensures.value ∙ sym (ap (λ (o : Outcome). o.fault) d);
-      bytes = c.edit-named.ensures.bytes ∙ sym (ap (λ (o : Outcome). length o.out) d);
-      sheet = c.edit-named.ensures.sheet ∙ sym (ap (λ (o : Outcome). o.out ++ drop (length o.out) sheet) d);
-      world = c.edit-named.ensures.world ∙ sym (ap (λ (o : Outcome). o.world) d);
-      text = c.edit-named.ensures.text;
-      keep = c.edit-named.ensures.keep;
+      value = c.edit_named.ensures.value ∙ sym (ap (λ (o : Outcome). o.fault) d);
+      bytes = c.edit_named.ensures.bytes ∙ sym (ap (λ (o : Outcome). length o.out) d);
+      sheet = c.edit_named.ensures.sheet ∙ sym (ap (λ (o : Outcome). o.out ++ drop (length o.out) sheet) d);
+      world = c.edit_named.ensures.world ∙ sym (ap (λ (o : Outcome). o.world) d);
+      text = c.edit_named.ensures.text;
+      keep = c.edit_named.ensures.keep;
     }
 
 pub returns-in-Some : goal.returns-in-Some
@@ -42,10 +42,10 @@ returns-in-Some g c =
     ∙ ap (λ (b : List ℕ). Ok b) (sym c.text.ensures) in
     let d : edited (length sheet - 16) w n ≡ read_named (length sheet - 16) w f = edited-named (length sheet - 16) w n f (sym c.in-Ok.ensures) named in
     record {
-      value = c.edit-named-in-Remembered.ensures.value ∙ sym (ap (λ (o : Outcome). o.fault) d);
-      bytes = c.edit-named-in-Remembered.ensures.bytes ∙ sym (ap (λ (o : Outcome). length o.out) d);
-      sheet = c.edit-named-in-Remembered.ensures.sheet ∙ sym (ap (λ (o : Outcome). o.out ++ drop (length o.out) sheet) d);
-      world = c.edit-named-in-Remembered.ensures.world ∙ sym (ap (λ (o : Outcome). o.world) d);
-      text = c.edit-named-in-Remembered.ensures.text;
-      keep = c.edit-named-in-Remembered.ensures.keep;
+      value = c.edit_named-in-Remembered.ensures.value ∙ sym (ap (λ (o : Outcome). o.fault) d);
+      bytes = c.edit_named-in-Remembered.ensures.bytes ∙ sym (ap (λ (o : Outcome). length o.out) d);
+      sheet = c.edit_named-in-Remembered.ensures.sheet ∙ sym (ap (λ (o : Outcome). o.out ++ drop (length o.out) sheet) d);
+      world = c.edit_named-in-Remembered.ensures.world ∙ sym (ap (λ (o : Outcome). o.world) d);
+      text = c.edit_named-in-Remembered.ensures.text;
+      keep = c.edit_named-in-Remembered.ensures.keep;
     }

@@ -8,12 +8,12 @@ use Rattle.commanding.specs.Editing.{read_named}
 use Rattle.commanding.proofs.Loading.{file-present, file_label, readable_parts, named-read, written_first}
 use Rattle.commanding.proofs.reading_in.edit_named.Goals as goal
 
-pub check-file-requires : goal.check-file-requires
-check-file-requires g c =
+pub check_file-requires : goal.check_file-requires
+check_file-requires g c =
     file-present (g.S.Shelf.meaning c.args.shelf.now) c.args.name.now c.in-Some.file (sym c.in-Some.ensures)
 
-pub read-in-requires : goal.read-in-requires
-read-in-requires g c =
+pub read_in-requires : goal.read_in-requires
+read_in-requires g c =
     let s = g.S.Shelf.meaning c.args.shelf.now in
     let found : lookup_answer s c.args.name.now ≡ Some c.in-Some.file = sym c.in-Some.ensures in
     let parts = readable_parts _ _ (file_in s c.in-Some.file) _ (sym c.in-Ok.ensures) in
@@ -35,9 +35,9 @@ returns g c =
     named-read (length sheet - 16) w n c.in-Some.file size (sym c.in-Some.ensures) (sym c.in-Ok.ensures) in
     record {
       value = sym (ap (λ (o : Outcome). o.fault) d);
-      bytes = c.number-size.ensures ∙ sym (ap (λ (o : Outcome). length o.out) d);
-      sheet = c.print-number.ensures ∙ written_first sheet (numbered size) ∙ sym (ap (λ (o : Outcome). o.out ++ drop (length o.out) sheet) d);
-      world = c.read-in.ensures.world s ∙ sym (ap (λ (o : Outcome). o.world) d);
-      text = c.read-in.ensures.text;
-      keep = c.read-in.ensures.keep;
+      bytes = c.number_size.ensures ∙ sym (ap (λ (o : Outcome). length o.out) d);
+      sheet = c.print_number.ensures ∙ written_first sheet (numbered size) ∙ sym (ap (λ (o : Outcome). o.out ++ drop (length o.out) sheet) d);
+      world = c.read_in.ensures.world s ∙ sym (ap (λ (o : Outcome). o.world) d);
+      text = c.read_in.ensures.text;
+      keep = c.read_in.ensures.keep;
     }

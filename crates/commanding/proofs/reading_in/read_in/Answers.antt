@@ -10,18 +10,18 @@ use Rattle.commanding.proofs.reading_in.read_in.Goals as goal
 
 pub returns : goal.returns
 returns g c =
-    let t = g.T.LineStore.meaning c.load-file.new.text in
+    let t = g.T.LineStore.meaning c.load_file.new.text in
     let file = file_in (g.S.Shelf.meaning c.args.shelf.now) c.args.file in
     let count : c.count-session.result ≡ length (split file) =
     c.count-session.ensures
     ∙ sym (length-map t.lines seen)
-    ∙ ap (λ (ls : List Line). length ls) c.load-file.ensures.lines
+    ∙ ap (λ (ls : List Line). length ls) c.load_file.ensures.lines
     ∙ length-map (split file) created in
     record {
       world = λ h.
           loaded_is (world_of c.args.session.now (g.T.LineStore.meaning c.args.text.now) (g.K.LineStore.meaning c.args.keep.now) h)
-          c.args.name.now file _ _ _ _ c.load-file.ensures.lines (ap seen_lines c.empty-2.ensures) count
+          c.args.name.now file _ _ _ _ c.load_file.ensures.lines (ap seen_lines c.empty-2.ensures) count
           (label_text c.args.name.now c.new-session.result c.requires.label c.new-session.ensures);
-      text = c.load-file.ensures.capacity ∙ ap (λ (v : Store). v.capacity) c.empty.ensures;
+      text = c.load_file.ensures.capacity ∙ ap (λ (v : Store). v.capacity) c.empty.ensures;
       keep = ap (λ (v : Store). v.capacity) c.empty-2.ensures;
     }

@@ -8,13 +8,13 @@ pub loop-i-preserved : goal.loop-i-preserved
 loop-i-preserved g c =
     let t = g.T.LineStore.meaning c.args.text.now in
     let here = line_at t (c.loop-i.i + 1) in
-    let same = unchosen-line here _ _ c.tag-of.ensures.value c.without-chosen-tag.ensures.seen in
-    let l : Line = record { text = here.text; tag = c.without-chosen-tag.result } in
+    let same = unchosen-line here _ _ c.tag_of.ensures.value c.without_chosen-tag.ensures.seen in
+    let l : Line = record { text = here.text; tag = c.without_chosen-tag.result } in
     let le : c.loop-i.i < length t.lines = omega arith in
-    filled _ t _ _ c.loop-i.i l le c.copy-line.ensures same c.loop-i.invariant
+    filled _ t _ _ c.loop-i.i l le c.copy_line.ensures same c.loop-i.invariant
 
-pub copy-line-requires : goal.copy-line-requires
-copy-line-requires g c = let s = g.met.T.LineStore.sound c.args.text.now in search rules
+pub copy_line-requires : goal.copy_line-requires
+copy_line-requires g c = let s = g.met.T.LineStore.sound c.args.text.now in search rules
 
 pub returns : goal.returns
 returns g c = search (rules, filled_all)

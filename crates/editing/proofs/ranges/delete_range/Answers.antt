@@ -10,7 +10,7 @@ returns g c =
     let f = c.args.range.first in
     let l = c.args.range.last in
     let le : f - 1 ≤ length was.lines = omega arith in
-    let after : g.T.LineStore.meaning c.take-lines.new.text ≡ without was f l = c.take-lines.ensures in
+    let after : g.T.LineStore.meaning c.take_lines.new.text ≡ without was f l = c.take_lines.ensures in
     record {
       store = after;
       lines = rw after (deleted_lines was f l);

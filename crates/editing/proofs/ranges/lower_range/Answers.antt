@@ -8,5 +8,5 @@ loop-init g c = search (rules, swapped_none)
 pub loop-preserved : goal.loop-preserved
 loop-preserved g c = search (rules, lowered_more)
 
-pub shift-line-requires : goal.shift-line-requires
-shift-line-requires g c = search (rules, count-swapped)
+pub shift_line-requires : goal.shift_line-requires
+shift_line-requires g c = search (rules, count-swapped)

@@ -11,7 +11,7 @@ returns-then-behind-range g c =
     let l = c.args.range.last in
     let t = c.args.behind in
     let le : t ≤ length was.lines = omega arith in
-    let after : g.T.LineStore.meaning c.raise-range.new.text ≡ with_swapped was t (f - 1) l = c.raise-range.ensures in
+    let after : g.T.LineStore.meaning c.raise_range.new.text ≡ with_swapped was t (f - 1) l = c.raise_range.ensures in
     record {
       lines = rw after (raised_lines was f l t c.args.range.some (omega arith));
       capacity = ap (λ (s : Store). s.capacity) after;
@@ -25,7 +25,7 @@ returns-else-behind-range g c =
     let l = c.args.range.last in
     let t = c.args.behind in
     let le : f - 1 ≤ length was.lines = omega arith in
-    let after : g.T.LineStore.meaning c.lower-range.new.text ≡ with_swapped was (f - 1) l t = c.lower-range.ensures in
+    let after : g.T.LineStore.meaning c.lower_range.new.text ≡ with_swapped was (f - 1) l t = c.lower_range.ensures in
     record {
       lines = rw after (lowered_lines was f l t c.args.range.some (omega arith));
       capacity = ap (λ (s : Store). s.capacity) after;

@@ -8,5 +8,5 @@ loop-i-init g c = search (rules, unswapped)
 pub loop-i-preserved : goal.loop-i-preserved
 loop-i-preserved g c = search (rules, raised_more)
 
-pub shift-line-requires : goal.shift-line-requires
-shift-line-requires g c = search (rules, count-swapped)
+pub shift_line-requires : goal.shift_line-requires
+shift_line-requires g c = search (rules, count-swapped)

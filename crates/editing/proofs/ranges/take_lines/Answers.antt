@@ -8,5 +8,5 @@ loop-init g c = search (rules, without_none)
 pub loop-preserved : goal.loop-preserved
 loop-preserved g c = search (rules, without_more)
 
-pub take-line-requires : goal.take-line-requires
-take-line-requires g c = search (rules, count-without)
+pub take_line-requires : goal.take_line-requires
+take_line-requires g c = search (rules, count-without)

@@ -6,11 +6,11 @@ use Rattle.editing.proofs.swapping.move_tail.Goals as goal
 pub loop-i-init : goal.loop-i-init
 loop-i-init g c = search (rules, moved_none, without_start)
 
-pub copy-with-tag-requires : goal.copy-with-tag-requires
-copy-with-tag-requires g c = search (rules, count_cut, moved-count)
+pub copy_with_tag-requires : goal.copy_with_tag-requires
+copy_with_tag-requires g c = search (rules, count_cut, moved-count)
 
-pub take-line-requires : goal.take-line-requires
-take-line-requires g c = search (rules, count_cut)
+pub take_line-requires : goal.take_line-requires
+take_line-requires g c = search (rules, count_cut)
 
 pub loop-i-preserved : goal.loop-i-preserved
 loop-i-preserved g c = search (rules, moved_more, without_more)

@@ -11,15 +11,15 @@ loop-b-preserved c =
     let i = c.loop-b.b-index in
     let next = at_drop_more (counted c.loop-b.sum) bytes i 0 c.loop-b-test.true in
     let bounds = byte_bounds c.loop-b.sum (get_or bytes i 0) in
-    let ended = ap (λ (x : Count). x.ended) c.count-byte-sum.ensures in
-    let pending = ap (λ (x : Count). x.pending) c.count-byte-sum.ensures in (
-      ap (λ (x : Count). counted x (drop (i + 1) bytes)) c.count-byte-sum.ensures ∙ (sym next ∙ c.loop-b.invariant.0),
+    let ended = ap (λ (x : Count). x.ended) c.count_byte-sum.ensures in
+    let pending = ap (λ (x : Count). x.pending) c.count_byte-sum.ensures in (
+      ap (λ (x : Count). counted x (drop (i + 1) bytes)) c.count_byte-sum.ensures ∙ (sym next ∙ c.loop-b.invariant.0),
       omega (arith, bounds),
       omega (arith, bounds),
     )
 
-pub count-byte-sum-requires : goal.count-byte-sum-requires
-count-byte-sum-requires c = record { ended = omega arith; pending = omega arith }
+pub count_byte-sum-requires : goal.count_byte-sum-requires
+count_byte-sum-requires c = record { ended = omega arith; pending = omega arith }
 
 pub returns : goal.returns
 returns c = let e = at_drop_all (counted c.loop-b.sum) c.args.bytes.now c.loop-b.b-index c.loop-b-test.false in sym e ∙ c.loop-b.invariant.0

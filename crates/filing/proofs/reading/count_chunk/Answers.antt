@@ -4,6 +4,6 @@ use Rattle.filing.proofs.reading.count_chunk.Goals as goal
 
 pub returns : goal.returns
 returns g c =
-    let all : c.read-chunk-size.result - 0 ≡ c.read-chunk-size.result = omega arith in
-    c.count-bytes.ensures
-    ∙ ap (counted c.args.count) (ap (λ n. take n c.read-chunk-size.new.buffer) all ∙ c.read-chunk-size.ensures.bytes)
+    let all : c.read_chunk-size.result - 0 ≡ c.read_chunk-size.result = omega arith in
+    c.count_bytes.ensures
+    ∙ ap (counted c.args.count) (ap (λ n. take n c.read_chunk-size.new.buffer) all ∙ c.read_chunk-size.ensures.bytes)

@@ -7,8 +7,8 @@ use Rattle.filing.proofs.Loading.{file-bounded, counted_chunk}
 use Rattle.filing.proofs.Splitting.{counted-bounds}
 use Rattle.filing.proofs.reading.count_file.Goals as goal
 
-pub count-chunk-count-requires : goal.count-chunk-count-requires
-count-chunk-count-requires g c =
+pub count_chunk-count-requires : goal.count_chunk-count-requires
+count_chunk-count-requires g c =
     let s = g.S.Shelf.meaning c.args.shelf.now in
     let bound = file-bounded s c.args.file (g.met.S.Shelf.sound c.args.shelf.now) c.requires in
     let size : c.unwrap-size.result ≡ length (file_in s c.args.file) = search rules in
@@ -27,7 +27,7 @@ loop-place-preserved g c =
     let chunk = take 256 (drop c.loop-place.place bytes) in
     let bounds = counted-bounds c.loop-place.count chunk in
     let size = length-take 256 (drop c.loop-place.place bytes) in
-    let is = c.count-chunk-count.ensures in
+    let is = c.count_chunk-count.ensures in
     let ended = ap (λ (x : Count). x.ended) is in
     let pending = ap (λ (x : Count). x.pending) is in (
       ap (λ (x : Count). counted x (drop (c.loop-place.place + 256) bytes)) is

@@ -8,25 +8,25 @@ use Rattle.filing.proofs.Loading.{file-bounded, put_last}
 use Rattle.filing.proofs.Splitting.{split_first, first-within, first_fits}
 use Rattle.filing.proofs.reading.load_line.Goals as goal
 
-pub read-line-len-requires : goal.read-line-len-requires
-read-line-len-requires g c =
+pub read_line-len-requires : goal.read_line-len-requires
+read_line-len-requires g c =
     let whole = file_in (g.S.Shelf.meaning c.args.shelf.now) c.args.file in
     let some : 1 ≤ length (drop c.args.place whole) = omega (arith, length-drop c.args.place whole) in
     record { present = c.requires.present; space = refl; short = (first_fits (drop c.args.place whole) some c.requires.fits).short }
 
-pub put-line-requires : goal.put-line-requires
-put-line-requires g c =
+pub put_line-requires : goal.put_line-requires
+put_line-requires g c =
     let whole = file_in (g.S.Shelf.meaning c.args.shelf.now) c.args.file in
     let bytes = drop c.args.place whole in
     let some : 1 ≤ length bytes = omega (arith, length-drop c.args.place whole) in
     let cut = ap length (split_first bytes some) in
-    let size = ap length c.read-line-len.ensures.bytes in
+    let size = ap length c.read_line-len.ensures.bytes in
     let first = length-take-le (line_length bytes) bytes (first-within bytes) in
     record {
       place = omega arith;
       room = omega arith;
       short = omega arith;
-      unbroken = ap holds_break c.read-line-len.ensures.bytes ∙ (first_fits bytes some c.requires.fits).unbroken;
+      unbroken = ap holds_break c.read_line-len.ensures.bytes ∙ (first_fits bytes some c.requires.fits).unbroken;
       defined = lit< tt;
     }
 
@@ -43,11 +43,11 @@ overflow-add-result-2 g c =
 pub returns : goal.returns
 returns g c =
     let was = g.T.LineStore.meaning c.args.text.now in
-    let is = g.T.LineStore.meaning c.put-line.new.text in
+    let is = g.T.LineStore.meaning c.put_line.new.text in
     let bytes = drop c.args.place (file_in (g.S.Shelf.meaning c.args.shelf.now) c.args.file) in
     record {
       next = omega arith;
-      lines = put_last was is c.count.result (take (c.read-line-len.result - 0) c.read-line-len.new.buffer) (first_line bytes)
-          c.count.ensures c.put-line.ensures c.read-line-len.ensures.bytes;
-      capacity = ap (λ (s : Store). s.capacity) c.put-line.ensures;
+      lines = put_last was is c.count.result (take (c.read_line-len.result - 0) c.read_line-len.new.buffer) (first_line bytes)
+          c.count.ensures c.put_line.ensures c.read_line-len.ensures.bytes;
+      capacity = ap (λ (s : Store). s.capacity) c.put_line.ensures;
     }

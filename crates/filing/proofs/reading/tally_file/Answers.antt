@@ -8,6 +8,6 @@ pub returns : goal.returns
 returns g c =
     let bytes = file_in (g.S.Shelf.meaning c.args.shelf.now) c.args.file in
     record {
-      lines = c.lines-counted.ensures ∙ (ap lines_of c.count-file-count.ensures.value ∙ counted-lines bytes);
-      fits = c.all_fit_lem.ensures ∙ (ap fits_of c.count-file-count.ensures.value ∙ counted_fits bytes);
+      lines = c.lines_counted.ensures ∙ (ap lines_of c.count_file-count.ensures.value ∙ counted-lines bytes);
+      fits = c.all_fit_lem.ensures ∙ (ap fits_of c.count_file-count.ensures.value ∙ counted_fits bytes);
     }

@@ -3,8 +3,8 @@ use Rattle.filing.specs.Contents.{contents_from}
 use Rattle.filing.proofs.Adding.{cleared_takes}
 use Rattle.filing.proofs.writing.write_file.Goals as goal
 
-pub add-range-requires : goal.add-range-requires
-add-range-requires g c =
+pub add_range-requires : goal.add_range-requires
+add_range-requires g c =
     let was = g.S.Shelf.meaning c.args.shelf.now in
     let is = g.S.Shelf.meaning c.clear.new.self in
     let contents = contents_from c.args.range (g.T.LineStore.meaning c.args.text.now) in

@@ -29,8 +29,8 @@ returns-in-Ok g c =
     let x = doing room w a d in
     let o = cond p.changed None (Some c.args.before) in
     let value = c.in-Ok.ensures.value in
-    let world : v ≡ world_after (Listed o) w d x = c.in-Ok.ensures.world ∙ ap (λ (q : Option ℕ). world_after (Listed q) w d x) c.line-to-keep.ensures in
-    let change : c.is-change.result ≡ is_change true d = c.is-change.ensures in
+    let world : v ≡ world_after (Listed o) w d x = c.in-Ok.ensures.world ∙ ap (λ (q : Option ℕ). world_after (Listed q) w d x) c.line_to_keep.ensures in
+    let change : c.is_change.result ≡ is_change true d = c.is_change.ensures in
     let left = length-take-le p.at sheet (omega (arith, c.requires.going.room)) in
     let kept = sheet_kept x c.in-Ok.acted.at p.at room sheet c.act.new.sheet value c.in-Ok.ensures.sheet (out_fits room w a d) (omega (arith, c.requires.going.room)) in
     record {
@@ -43,7 +43,7 @@ returns-in-Ok g c =
       ready = λ b ready. record {
         current = ready.current;
         lines = λ e.
-            let q = or_false p.changed c.is-change.result e in
+            let q = or_false p.changed c.is_change.result e in
             ap unchosen (still_ready w v d o x c.in-Ok.acted.at p.at value world (λ y h k. lines_left room w a d y h k) (sym change ∙ q.1)) ∙ ready.lines q.0;
       };
       going = record {

@@ -11,7 +11,7 @@ use Rattle.globals.proofs.turns.begin_turn.Goals as goal
 pub returns : goal.returns
 returns g c =
     let t = g.T.LineStore.meaning c.args.text.now in
-    let u = g.T.LineStore.meaning c.set-chosen.new.text in
+    let u = g.T.LineStore.meaning c.set_chosen.new.text in
     let p = c.args.progress in
     let n = c.args.n in
     record {
@@ -24,16 +24,16 @@ returns g c =
             fault = None;
             turns = turns;
           } in
-          ap (λ (ls : List Line). make ls (p.turns + 1)) c.set-chosen.ensures.lines ∙ ap (λ (m : ℕ). make (on_line n (choosing false) (seen_lines t)) m) (add-one p.turns);
-      ready = λ b line r. record { current = r.current; lines = λ e. ap unchosen c.set-chosen.ensures.lines ∙ begun-unchosen n (seen_lines t) ∙ r.lines e };
+          ap (λ (ls : List Line). make ls (p.turns + 1)) c.set_chosen.ensures.lines ∙ ap (λ (m : ℕ). make (on_line n (choosing false) (seen_lines t)) m) (add-one p.turns);
+      ready = λ b line r. record { current = r.current; lines = λ e. ap unchosen c.set_chosen.ensures.lines ∙ begun-unchosen n (seen_lines t) ∙ r.lines e };
       going = λ k sheet r. record {
         seated = record {
-          text = r.seated.text ∙ sym c.set-chosen.ensures.capacity;
+          text = r.seated.text ∙ sym c.set_chosen.ensures.capacity;
           keep = r.seated.keep;
-          within = omega (arith, c.set-chosen.ensures.count, c.requires.line);
+          within = omega (arith, c.set_chosen.ensures.count, c.requires.line);
         };
         room = r.room;
-        front = ap (λ (ls : List Line). chosen_in (take n ls)) c.set-chosen.ensures.lines ∙ turn_front n (seen_lines t) c.requires.first;
+        front = ap (λ (ls : List Line). chosen_in (take n ls)) c.set_chosen.ensures.lines ∙ turn_front n (seen_lines t) c.requires.first;
       };
       kept = (refl, refl);
     }

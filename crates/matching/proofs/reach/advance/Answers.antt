@@ -42,7 +42,7 @@ loop-place-preserved c =
     let here = l.led || (i.starred && reached l.row l.place) in
     let next : Reach → Type 0 = λ r.
     Halfway i line old (set l.row l.place here) (l.place + 1)
-    (((i.starred && l.led) || reached l.row l.place) && c.byte-in.result) r.low r.end r.solid in
+    (((i.starred && l.led) || reached l.row l.place) && c.byte_in.result) r.low r.end r.solid in
     let single : Reach = record { low = l.place; end = l.place + 1; solid = true } in
     let more : Reach = record { low = l.next.low; end = l.place + 1; solid = l.next.solid && eqb l.place l.next.end } in
     elim c.if-here.branch [
@@ -51,16 +51,16 @@ loop-place-preserved c =
           (λ (z : l.next.end ≡ 0).
           subst next (sym (w.next-is ∙ w.with-next.ensures ∙ cond-true (eqb l.next.end 0) single more (eq-eqb l.next.end 0 z)))
           (first_hit i line old reach.low reach.end reach.solid c.requires.spans c.requires.some c.requires.within c.requires.long
-          l.row l.place l.led l.next.low l.next.end l.next.solid l.invariant inside c.byte-in.result c.byte-in.ensures w.if-here.true z))
+          l.row l.place l.led l.next.low l.next.end l.next.solid l.invariant inside c.byte_in.result c.byte_in.ensures w.if-here.true z))
           (λ (z : l.next.end ≡ 0 → ⊥).
           subst next (sym (w.next-is ∙ w.with-next.ensures ∙ cond-false (eqb l.next.end 0) single more (ne_eqb l.next.end 0 z)))
           (later_hit i line old reach.low reach.end reach.solid c.requires.spans c.requires.some c.requires.within c.requires.long
-          l.row l.place l.led l.next.low l.next.end l.next.solid l.invariant inside c.byte-in.result c.byte-in.ensures w.if-here.true z))
+          l.row l.place l.led l.next.low l.next.end l.next.solid l.invariant inside c.byte_in.result c.byte_in.ensures w.if-here.true z))
           (cases_eq l.next.end 0)
       | else-here w ↦
           subst next (sym w.next-is)
           (half_missed i line old reach.low reach.end reach.solid c.requires.spans c.requires.some c.requires.within c.requires.long
-          l.row l.place l.led l.next.low l.next.end l.next.solid l.invariant inside c.byte-in.result c.byte-in.ensures w.if-here.false)
+          l.row l.place l.led l.next.low l.next.end l.next.solid l.invariant inside c.byte_in.result c.byte_in.ensures w.if-here.false)
     ]
 
 pub returns : goal.returns

@@ -7,7 +7,7 @@ use Rattle.patterns.specs.View.{item_of, meaning}
 use Rattle.matching.proofs.Found.{last_start, matching_right, matching_one, match_within}
 use Rattle.matching.proofs.Starts.{pass, stop, no_more}
 use Rattle.matching.proofs.search.first_match.Goals as goal
-use Rattle.matching.proofs.search.first_match.Goals.{then-has-front-anchor, else-has-front-anchor}
+use Rattle.matching.proofs.search.first_match.Goals.{then-has_front_anchor, else-has_front_anchor}
 
 -- all that is promised of an answer, from what it is
 answered : (p : Pattern) (line : Bytes) (from : ℕ) (r : Option Match) → r ≡ match_from p line from
@@ -28,14 +28,14 @@ returns-in-Some c =
     let p = meaning c.args.pattern.now in
     let line = c.args.line.now in
     let l = c.loop-start in
-    let last : c.if-has-front-anchor.last ≡ last_start p.front line =
-    elim c.if-has-front-anchor.branch [
-      | then-has-front-anchor w ↦ w.last-is ∙ ap (λ t. last_start t line) (sym w.if-has-front-anchor.true ∙ c.has-front-anchor.ensures)
-      | else-has-front-anchor w ↦ w.last-is ∙ ap (λ t. last_start t line) (sym w.if-has-front-anchor.false ∙ c.has-front-anchor.ensures)
+    let last : c.if-has_front_anchor.last ≡ last_start p.front line =
+    elim c.if-has_front_anchor.branch [
+      | then-has_front_anchor w ↦ w.last-is ∙ ap (λ t. last_start t line) (sym w.if-has_front_anchor.true ∙ c.has_front_anchor.ensures)
+      | else-has_front_anchor w ↦ w.last-is ∙ ap (λ t. last_start t line) (sym w.if-has_front_anchor.false ∙ c.has_front_anchor.ensures)
     ] in
     let e = c.in-Some.ensures.value
-    ∙ ap (λ xs. longest_end xs c.has-end-anchor-back.result line l.start) c.items-items.ensures
-    ∙ ap (λ t. longest_end p.items t line l.start) c.has-end-anchor-back.ensures in
+    ∙ ap (λ xs. longest_end xs c.has_end_anchor-back.result line l.start) c.items-items.ensures
+    ∙ ap (λ t. longest_end p.items t line l.start) c.has_end_anchor-back.ensures in
     answered p line c.args.from (Some (record { start = l.start; end = c.in-Some.end }))
     (stop p line l.start c.in-Some.end (omega (arith, c.loop-start-test.true)) e ∙ l.invariant.0)
 
@@ -44,22 +44,22 @@ loop-start-preserved c =
     let p = meaning c.args.pattern.now in
     let line = c.args.line.now in
     let l = c.loop-start in
-    let r = c.next-start-start.result in
-    let back = c.has-end-anchor-back.result in
+    let r = c.next_start-start.result in
+    let back = c.has_end_anchor-back.result in
     let e : (k : ℕ) → longest_end (map item_of c.items-items.result.now) back line k ≡ longest_end p.items p.back line k =
-    λ k. ap (λ xs. longest_end xs back line k) c.items-items.ensures ∙ ap (λ t. longest_end p.items t line k) c.has-end-anchor-back.ensures in
+    λ k. ap (λ xs. longest_end xs back line k) c.items-items.ensures ∙ ap (λ t. longest_end p.items t line k) c.has_end_anchor-back.ensures in
     let none : (t : ℕ) → l.start ≤ t → t < r → longest_end p.items p.back line t ≡ None =
-    λ t a b. sym (e t) ∙ c.next-start-start.ensures.hopeless back (sym c.in-default.ensures.value) t a b in
-    (sym (pass p line l.start r (let f = c.next-start-start.ensures.forward in omega arith) none) ∙ l.invariant.0, c.in-default.ensures.clear)
+    λ t a b. sym (e t) ∙ c.next_start-start.ensures.hopeless back (sym c.in_default.ensures.value) t a b in
+    (sym (pass p line l.start r (let f = c.next_start-start.ensures.forward in omega arith) none) ∙ l.invariant.0, c.in_default.ensures.clear)
 
 pub returns : goal.returns
 returns c =
     let p = meaning c.args.pattern.now in
     let line = c.args.line.now in
     let l = c.loop-start in
-    let last : c.if-has-front-anchor.last ≡ last_start p.front line =
-    elim c.if-has-front-anchor.branch [
-      | then-has-front-anchor w ↦ w.last-is ∙ ap (λ t. last_start t line) (sym w.if-has-front-anchor.true ∙ c.has-front-anchor.ensures)
-      | else-has-front-anchor w ↦ w.last-is ∙ ap (λ t. last_start t line) (sym w.if-has-front-anchor.false ∙ c.has-front-anchor.ensures)
+    let last : c.if-has_front_anchor.last ≡ last_start p.front line =
+    elim c.if-has_front_anchor.branch [
+      | then-has_front_anchor w ↦ w.last-is ∙ ap (λ t. last_start t line) (sym w.if-has_front_anchor.true ∙ c.has_front_anchor.ensures)
+      | else-has_front_anchor w ↦ w.last-is ∙ ap (λ t. last_start t line) (sym w.if-has_front_anchor.false ∙ c.has_front_anchor.ensures)
     ] in
     answered p line c.args.from None (no_more p line l.start (omega (arith, c.loop-start-test.false)) ∙ l.invariant.0)

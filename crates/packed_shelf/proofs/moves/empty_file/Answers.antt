@@ -21,6 +21,6 @@ returns c =
           ∙ rows-emptied rows c.args.place r c.requires.within c.index-rows-place.is;
       bytes =
           c.shift.ensures.after
-          ∙ bytes-emptied rows c.args.place r c.requires.within c.index-rows-place.is c.args.bytes.now c.start-of-used.result
-          (c.start-of-used.ensures ∙ total_all rows) c.requires.fits c.start-of-start.result c.start-of-end.result c.start-of-start.ensures c.start-of-end.ensures;
+          ∙ bytes-emptied rows c.args.place r c.requires.within c.index-rows-place.is c.args.bytes.now c.start_of-used.result
+          (c.start_of-used.ensures ∙ total_all rows) c.requires.fits c.start_of-start.result c.start_of-end.result c.start_of-start.ensures c.start_of-end.ensures;
     }

@@ -22,8 +22,8 @@ overflow-add-end-2 c =
     let b = behind_is rows c.args.place c.index-rows-place.result c.requires.within c.index-rows-place.is in
     omega arith
 
-pub slice-bounds-copy-from-slice-end : goal.slice-bounds-copy-from-slice-end
-slice-bounds-copy-from-slice-end c =
+pub slice-bounds-copy_from_slice-end : goal.slice-bounds-copy_from_slice-end
+slice-bounds-copy_from_slice-end c =
     let rows = c.args.rows.now in
     let b = behind_is rows c.args.place c.index-rows-place.result c.requires.within c.index-rows-place.is in
     omega arith
@@ -39,13 +39,13 @@ pub returns : goal.returns
 returns c =
     let rows = c.args.rows.now in
     let more = c.args.more.now in
-    let end = c.start-of-end.result in
+    let end = c.start_of-end.result in
     let r = c.index-rows-place.result in
     record {
       rows = rows_lengthened_lem rows c.args.place r c.requires.within c.index-rows-place.is (length more);
       bytes =
-          ap (λ (xs : List ℕ). put_mid end (end + length more - end) c.shift.new.s xs) c.copy-from-slice.ensures.after
+          ap (λ (xs : List ℕ). put_mid end (end + length more - end) c.shift.new.s xs) c.copy_from_slice.ensures.after
           ∙ (ap (λ (xs : List ℕ). put_mid end (end + length more - end) xs more) c.shift.ensures.after
-          ∙ bytes_lengthened_lem rows c.args.place r c.requires.within c.index-rows-place.is c.args.bytes.now c.start-of-used.result
-          (c.start-of-used.ensures ∙ total_all rows) more c.requires.fits end c.start-of-end.ensures);
+          ∙ bytes_lengthened_lem rows c.args.place r c.requires.within c.index-rows-place.is c.args.bytes.now c.start_of-used.result
+          (c.start_of-used.ensures ∙ total_all rows) more c.requires.fits end c.start_of-end.ensures);
     }

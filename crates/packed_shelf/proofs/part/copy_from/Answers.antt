@@ -30,6 +30,6 @@ returns c =
     record {
       value = as_many s c.args.from (length buffer) n c.if-from-source.false c.min-count.ensures;
       after =
-          ap (λ (xs : List ℕ). xs ++ drop (n - 0) buffer) (c.copy-from-slice.ensures.after ∙ same-part s c.args.from (length buffer) n c.if-from-source.false c.min-count.ensures)
+          ap (λ (xs : List ℕ). xs ++ drop (n - 0) buffer) (c.copy_from_slice.ensures.after ∙ same-part s c.args.from (length buffer) n c.if-from-source.false c.min-count.ensures)
           ∙ ap (λ (m : ℕ). take (length buffer) (drop c.args.from s) ++ drop m buffer) (let z : n - 0 ≡ n = omega arith in z);
     }

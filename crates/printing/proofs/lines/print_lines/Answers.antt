@@ -6,8 +6,8 @@ use Rattle.printing.proofs.Ranging.{left, left_none, left_range, left_next, left
 use Rattle.printing.proofs.Sheets.{written_none, written_first}
 use Rattle.printing.proofs.lines.print_lines.Goals as goal
 
-pub print-line-place-requires : goal.print-line-place-requires
-print-line-place-requires g c =
+pub print_line-place-requires : goal.print_line-place-requires
+print_line-place-requires g c =
     let s = g.T.LineStore.meaning c.args.text.now in
     let all = ap length (left_range s c.args.range.first c.args.range.last (omega arith)) in
     let next = left_length s c.loop-i.i c.args.range.last (omega arith) (omega arith) in
@@ -21,9 +21,9 @@ loop-i-preserved g c =
     let line = (line_at s (c.loop-i.i + 1)).text in
     let sized = length_push line 10 in (
       omega arith,
-      written_first c.loop-i.sheet c.print-line-place.new.sheet c.loop-i.place c.print-line-place.result
+      written_first c.loop-i.sheet c.print_line-place.new.sheet c.loop-i.place c.print_line-place.result
           (line ++ (10 ∷ [])) (left s (c.loop-i.i + 1) c.args.range.last) (left s c.loop-i.i c.args.range.last)
-          c.print-line-place.ensures.after (omega arith) (omega arith)
+          c.print_line-place.ensures.after (omega arith) (omega arith)
           (left_next s c.loop-i.i c.args.range.last (omega arith) (omega arith))
           ∙ c.loop-i.invariant.1,
     )

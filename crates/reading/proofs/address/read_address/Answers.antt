@@ -12,6 +12,6 @@ pub returns : goal.returns
 unfolding address_at
 returns c =
     record {
-      value = reads _ c.in-Ok.ensures.value c.read-offsets.ensures.value;
-      shorter = IfOk-weaker c.read-offsets.result _ _ (λ x h. omega (arith, h, c.in-Ok.ensures.shorter)) c.read-offsets.ensures.shorter;
+      value = reads _ c.in-Ok.ensures.value c.read_offsets.ensures.value;
+      shorter = IfOk-weaker c.read_offsets.result _ _ (λ x h. omega (arith, h, c.in-Ok.ensures.shorter)) c.read_offsets.ensures.shorter;
     }

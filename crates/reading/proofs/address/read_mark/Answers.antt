@@ -6,9 +6,9 @@ use Rattle.reading.specs.Read.{Part}
 use Rattle.reading.specs.Addresses.{mark_at}
 use Rattle.reading.proofs.address.read_mark.Goals as goal
 
-pub returns-in-default : goal.returns-in-default
+pub returns-in_default : goal.returns-in_default
 unfolding mark_at
-returns-in-default c = rw (nil_from_length c.args.bytes.now c.in-default.ensures.cases) (record { value = refl; shorter = tt })
+returns-in_default c = rw (nil_from_length c.args.bytes.now c.in_default.ensures.cases) (record { value = refl; shorter = tt })
 
 pub returns-in-Some-named : goal.returns-in-Some-named
 unfolding mark_at

@@ -72,6 +72,6 @@ returns c =
     let l = c.loop-sign in
     let a : Address = record { base = base_view c.args.base; ahead = l.ahead; back = l.back } in
     record {
-      value = offsets-over l.invariant.2.0 a l.rest.now c.in-default.ensures ∙ l.invariant.2.2;
+      value = offsets-over l.invariant.2.0 a l.rest.now c.in_default.ensures ∙ l.invariant.2.2;
       shorter = l.invariant.0;
     }

@@ -14,6 +14,6 @@ unfolding after_first
 returns-in-Some c =
     let e = c.in-Some.ensures in
     record {
-      value = c.read-second.ensures.value ∙ ap (after_first (address_view c.args.first)) (sym e);
-      shorter = IfOk-weaker c.read-second.result _ _ (λ x h. omega (arith, h, ap length e)) c.read-second.ensures.shorter;
+      value = c.read_second.ensures.value ∙ ap (after_first (address_view c.args.first)) (sym e);
+      shorter = IfOk-weaker c.read_second.result _ _ (λ x h. omega (arith, h, ap length e)) c.read_second.ensures.shorter;
     }

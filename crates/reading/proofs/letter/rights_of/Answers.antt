@@ -35,6 +35,6 @@ returns-in-101 c = by c.in-101.is
     by (inr (inl e)) = ap (λ x. rights_of (rule_for x)) (sym e)
     by (inr (inr e)) = ap (λ x. rights_of (rule_for x)) (sym e)
 
-pub returns-in-default : goal.returns-in-default
-returns-in-default c =
+pub returns-in_default : goal.returns-in_default
+returns-in_default c =
     ap rights_of (sym (no-rule c.args.letter (search rules) (search rules) (search rules) (search rules) (search rules) (search rules) (search rules) (search rules) (search rules) (search rules) (search rules) (search rules) (search rules)))

@@ -8,21 +8,21 @@ use Rattle.reading.proofs.Letters.{unknown, unlisted, unaddressed, allowed}
 use Rattle.reading.proofs.line.read_letter.Goals as goal
 use Rattle.reading.proofs.line.read_letter.Goals.{else-setting-via-then-setting+else-not-rights, else-setting-via-else-setting, else-addressed-via-then-addressed+else-not-rights-2, else-addressed-via-else-addressed}
 
-pub returns-in-default : goal.returns-in-default
+pub returns-in_default : goal.returns-in_default
 unfolding command_at
-returns-in-default c =
+returns-in_default c =
     let e : length c.args.bytes.now ≡ 0 = search rules in
     rw (nil_from_length c.args.bytes.now e)
 
-pub returns-in-default-rights-of : goal.returns-in-default-rights-of
+pub returns-in_default-rights_of : goal.returns-in_default-rights_of
 unfolding command_at
-returns-in-default-rights-of c =
+returns-in_default-rights_of c =
     let bs = c.args.bytes.now in
     let s = setting_view c.args.setting in
     let given = c.args.addressed in
     let h : 0 < length bs = search rules in
     let f = ap (command_at s given) (first_rest bs h) in
-    unknown s given (drop 1 bs) (rule_for (get_or bs 0 0)) c.in-default-rights-of.ensures ∙ f
+    unknown s given (drop 1 bs) (rule_for (get_or bs 0 0)) c.in_default-rights_of.ensures ∙ f
 
 pub returns-then-not-rights : goal.returns-then-not-rights
 unfolding command_at
@@ -72,4 +72,4 @@ returns c =
       | else-addressed-via-then-addressed+else-not-rights-2 w ↦ or_right (not given) r.addressed (not-false r.addressed w.if-not-rights-2.false)
       | else-addressed-via-else-addressed w ↦ or_left (not given) r.addressed (not_from_false given w.if-addressed.false)
     ] in
-    simp take_rest at c.read-operands.ensures ∙ allowed s given (drop 1 bs) r.listed r.addressed (rule_for (get_or bs 0 0)) c.in-Some.ensures listed addressed ∙ f
+    simp take_rest at c.read_operands.ensures ∙ allowed s given (drop 1 bs) r.listed r.addressed (rule_for (get_or bs 0 0)) c.in-Some.ensures listed addressed ∙ f

@@ -19,5 +19,5 @@ returns-then-byte-ne32 c =
 
 pub returns : goal.returns
 returns c =
-    let e = nil_from_length c.loop-byte.rest.now c.in-default.ensures.cases in
+    let e = nil_from_length c.loop-byte.rest.now c.in_default.ensures.cases in
     e ∙ sym (ap behind_spaces e) ∙ c.loop-byte.invariant

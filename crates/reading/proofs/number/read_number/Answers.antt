@@ -4,12 +4,12 @@ use Rattle.reading.specs.Addresses.{digit_at}
 use Rattle.reading.proofs.Digits.{digit_shorter, digits_on, number_none, number-over, number_is}
 use Rattle.reading.proofs.number.read_number.Goals as goal
 
-pub returns-then-is-none : goal.returns-then-is-none
-returns-then-is-none c =
+pub returns-then-is_none : goal.returns-then-is_none
+returns-then-is_none c =
     record { value = number_none c.args.bytes.now (search rules); within = tt }
 
-pub returns-then-value-gt-NUMBER-MAX : goal.returns-then-value-gt-NUMBER-MAX
-returns-then-value-gt-NUMBER-MAX c =
+pub returns-then-value-gt-NUMBER_MAX : goal.returns-then-value-gt-NUMBER_MAX
+returns-then-value-gt-NUMBER_MAX c =
     let l = c.loop-digit in
     let s = c.in-Some in
     record {
@@ -34,7 +34,7 @@ returns c =
     let l = c.loop-digit in
     let bs = c.args.bytes.now in
     let some : is_some (digit_at bs) ≡ true = search rules in
-    let none = c.in-default.ensures in
+    let none = c.in_default.ensures in
     record {
       value = number_is bs l.value l.rest.now l.invariant.1 some none l.invariant.0;
       within = (l.invariant.0, ⊎_elim (λ e. absurd (both_ways (is_some (digit_at bs)) (ap is_some (sym (none ∙ ap digit_at e))) some)) (λ h. h) l.invariant.2);

@@ -4,9 +4,9 @@ use Rattle.std.proofs.lemmas.Bool.Decides.{nat_tests}
 use Rattle.reading.specs.Addresses.{digit_at}
 use Rattle.reading.proofs.number.split_digit.Goals as goal
 
-pub returns-in-default : goal.returns-in-default
+pub returns-in_default : goal.returns-in_default
 unfolding digit_at
-returns-in-default c = rw (nil_from_length c.args.bytes.now c.in-default.ensures.cases)
+returns-in_default c = rw (nil_from_length c.args.bytes.now c.in_default.ensures.cases)
 
 pub returns-then-byte-lt48 : goal.returns-then-byte-lt48
 unfolding digit_at

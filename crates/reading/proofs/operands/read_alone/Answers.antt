@@ -6,6 +6,6 @@ pub returns-in-empty : goal.returns-in-empty
 unfolding alone
 returns-in-empty c = search rules
 
-pub returns-in-default : goal.returns-in-default
+pub returns-in_default : goal.returns-in_default
 unfolding alone
-returns-in-default c = search rules
+returns-in_default c = search rules

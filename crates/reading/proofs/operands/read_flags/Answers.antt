@@ -19,18 +19,18 @@ pub returns-in-103-2 : goal.returns-in-103-2
 unfolding flags_of
 returns-in-103-2 c = search (rules, nat_tests)
 
-pub returns-in-default : goal.returns-in-default
+pub returns-in_default : goal.returns-in_default
 unfolding flags_of
-returns-in-default c = search (rules, nat_tests)
+returns-in_default c = search (rules, nat_tests)
 
-pub returns-in-default·2 : goal.returns-in-default·2
+pub returns-in_default-2 : goal.returns-in_default-2
 unfolding flags_of
-returns-in-default·2 c = search (rules, nat_tests)
+returns-in_default-2 c = search (rules, nat_tests)
 
-pub returns-in-default·3 : goal.returns-in-default·3
+pub returns-in_default-3 : goal.returns-in_default-3
 unfolding flags_of
-returns-in-default·3 c = search (rules, nat_tests)
+returns-in_default-3 c = search (rules, nat_tests)
 
-pub returns-in-default·4 : goal.returns-in-default·4
+pub returns-in_default-4 : goal.returns-in_default-4
 unfolding flags_of
-returns-in-default·4 c = search (rules, nat_tests)
+returns-in_default-4 c = search (rules, nat_tests)

@@ -4,7 +4,7 @@ use Rattle.reading.proofs.operands.read_marking.Goals as goal
 
 pub returns-in-Ok : goal.returns-in-Ok
 unfolding marking
-returns-in-Ok c = reads _ c.in-Ok.ensures.value c.read-alone.ensures
+returns-in-Ok c = reads _ c.in-Ok.ensures.value c.read_alone.ensures
 
 pub returns-in-Err : goal.returns-in-Err
 unfolding marking

@@ -7,14 +7,14 @@ pub returns-in-Err : goal.returns-in-Err
 unfolding substituting
 returns-in-Err c = refuses _ c.in-Err.ensures.value
 
-pub returns-in-Err-cut-part : goal.returns-in-Err-cut-part
+pub returns-in-Err-cut_part : goal.returns-in-Err-cut_part
 unfolding substituting
-returns-in-Err-cut-part c = reads _ c.in-Ok.ensures.value (refuses _ c.in-Err-cut-part.ensures.value)
+returns-in-Err-cut_part c = reads _ c.in-Ok.ensures.value (refuses _ c.in-Err-cut_part.ensures.value)
 
-pub returns-in-Ok-read-flags : goal.returns-in-Ok-read-flags
+pub returns-in-Ok-read_flags : goal.returns-in-Ok-read_flags
 unfolding substituting
-returns-in-Ok-read-flags c = reads _ c.in-Ok.ensures.value (reads _ c.in-Ok-cut-part.ensures.value (reads _ c.in-Ok-read-flags.ensures refl))
+returns-in-Ok-read_flags c = reads _ c.in-Ok.ensures.value (reads _ c.in-Ok-cut_part.ensures.value (reads _ c.in-Ok-read_flags.ensures refl))
 
-pub returns-in-Err-read-flags : goal.returns-in-Err-read-flags
+pub returns-in-Err-read_flags : goal.returns-in-Err-read_flags
 unfolding substituting
-returns-in-Err-read-flags c = reads _ c.in-Ok.ensures.value (reads _ c.in-Ok-cut-part.ensures.value (refuses _ c.in-Err-read-flags.ensures))
+returns-in-Err-read_flags c = reads _ c.in-Ok.ensures.value (reads _ c.in-Ok-cut_part.ensures.value (refuses _ c.in-Err-read_flags.ensures))

@@ -4,18 +4,18 @@ use Rattle.reading.specs.Parts.{sought_at}
 use Rattle.reading.proofs.Binds.{reads, refuses, passes, fails, first_rest}
 use Rattle.reading.proofs.part.read_sought.Goals as goal
 
-pub returns-in-default : goal.returns-in-default
+pub returns-in_default : goal.returns-in_default
 unfolding sought_at
-returns-in-default c =
+returns-in_default c =
     let e : length c.args.bytes.now ≡ 0 = search rules in
     rw (nil_from_length c.args.bytes.now e) (record { value = refl; shorter = tt })
 
-pub returns-then-not-is-delimiter : goal.returns-then-not-is-delimiter
+pub returns-then-not-is_delimiter : goal.returns-then-not-is_delimiter
 unfolding sought_at
-returns-then-not-is-delimiter c =
+returns-then-not-is_delimiter c =
     let h : 0 < length c.args.bytes.now = search rules in
     record {
-      value = fails _ _ (sym c.is-delimiter.ensures ∙ c.if-not-is-delimiter.true) ∙ ap sought_at (first_rest c.args.bytes.now h);
+      value = fails _ _ (sym c.is_delimiter.ensures ∙ c.if-not-is_delimiter.true) ∙ ap sought_at (first_rest c.args.bytes.now h);
       shorter = tt;
     }
 
@@ -26,7 +26,7 @@ returns-in-Ok c =
     let h : 0 < length bs = search rules in
     let e = simp take_rest at c.in-Ok.ensures.value in
     record {
-      value = passes _ _ (sym c.is-delimiter.ensures ∙ c.if-not-is-delimiter.false) (reads _ e refl) ∙ ap sought_at (first_rest bs h);
+      value = passes _ _ (sym c.is_delimiter.ensures ∙ c.if-not-is_delimiter.false) (reads _ e refl) ∙ ap sought_at (first_rest bs h);
       shorter = omega (arith, simp (take_rest, length-drop) at c.in-Ok.ensures.shorter);
     }
 
@@ -37,6 +37,6 @@ returns-in-Err c =
     let h : 0 < length bs = search rules in
     let e = simp take_rest at c.in-Err.ensures.value in
     record {
-      value = passes _ _ (sym c.is-delimiter.ensures ∙ c.if-not-is-delimiter.false) (refuses _ e) ∙ ap sought_at (first_rest bs h);
+      value = passes _ _ (sym c.is_delimiter.ensures ∙ c.if-not-is_delimiter.false) (refuses _ e) ∙ ap sought_at (first_rest bs h);
       shorter = tt;
     }

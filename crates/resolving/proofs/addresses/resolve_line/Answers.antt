@@ -4,18 +4,18 @@ use Rattle.rules.specs.Lines.{page, seen_lines}
 use Rattle.resolving.specs.Lookup.{least}
 use Rattle.resolving.proofs.Working.{length_seen, one_inside, one_outside}
 use Rattle.resolving.proofs.addresses.resolve_line.Goals as goal
-use Rattle.resolving.proofs.addresses.resolve_line.Goals.{then-zero-too, else-zero-too}
+use Rattle.resolving.proofs.addresses.resolve_line.Goals.{then-zero_too, else-zero_too}
 
 pub returns-then-n-count : goal.returns-then-n-count
 returns-then-n-count g c =
     let s = g.T.LineStore.meaning c.args.text.now in
     let l = length_seen s in
-    let z : c.if-zero-too.least ≡ least c.args.zero-too = elim c.if-zero-too.branch [
-      | then-zero-too w ↦ w.least-is ∙ ap least (sym w.if-zero-too.true)
-      | else-zero-too w ↦ w.least-is ∙ ap least (sym w.if-zero-too.false)
+    let z : c.if-zero_too.least ≡ least c.args.zero_too = elim c.if-zero_too.branch [
+      | then-zero_too w ↦ w.least-is ∙ ap least (sym w.if-zero_too.true)
+      | else-zero_too w ↦ w.least-is ∙ ap least (sym w.if-zero_too.false)
     ] in
     record {
-      value = sym (one_outside (page (seen_lines s) c.args.current) (addresses_view c.args.addresses) c.args.default c.in-Ok.lines.0 c.in-Ok.lines.1 c.args.zero-too (sym c.in-Ok.ensures) (omega arith) (omega arith));
+      value = sym (one_outside (page (seen_lines s) c.args.current) (addresses_view c.args.addresses) c.args.default c.in-Ok.lines.0 c.in-Ok.lines.1 c.args.zero_too (sym c.in-Ok.ensures) (omega arith) (omega arith));
       bounded = tt;
       accepted = tt;
     }
@@ -24,12 +24,12 @@ pub returns : goal.returns
 returns g c =
     let s = g.T.LineStore.meaning c.args.text.now in
     let l = length_seen s in
-    let z : c.if-zero-too.least ≡ least c.args.zero-too = elim c.if-zero-too.branch [
-      | then-zero-too w ↦ w.least-is ∙ ap least (sym w.if-zero-too.true)
-      | else-zero-too w ↦ w.least-is ∙ ap least (sym w.if-zero-too.false)
+    let z : c.if-zero_too.least ≡ least c.args.zero_too = elim c.if-zero_too.branch [
+      | then-zero_too w ↦ w.least-is ∙ ap least (sym w.if-zero_too.true)
+      | else-zero_too w ↦ w.least-is ∙ ap least (sym w.if-zero_too.false)
     ] in
     record {
-      value = sym (one_inside (page (seen_lines s) c.args.current) (addresses_view c.args.addresses) c.args.default c.in-Ok.lines.0 c.in-Ok.lines.1 c.args.zero-too (sym c.in-Ok.ensures) (omega arith) (omega arith));
+      value = sym (one_inside (page (seen_lines s) c.args.current) (addresses_view c.args.addresses) c.args.default c.in-Ok.lines.0 c.in-Ok.lines.1 c.args.zero_too (sym c.in-Ok.ensures) (omega arith) (omega arith));
       bounded = omega arith;
       accepted = omega arith;
     }

@@ -14,11 +14,11 @@ use Rattle.script.proofs.run.run_script.Goals as goal
 abbrev none : Bor (List ℕ)
 none = record { ref_ptr = (0, 0); now = [] }
 
-pub returns-then-not-has-room : goal.returns-then-not-has-room
-returns-then-not-has-room g c = record { due = search rules; told = search rules; same = same-answers; alike = same_runs }
+pub returns-then-not-has_room : goal.returns-then-not-has_room
+returns-then-not-has_room g c = record { due = search rules; told = search rules; same = same-answers; alike = same_runs }
 
-pub returns-in-default : goal.returns-in-default
-returns-in-default g c = record { due = search rules; told = search rules; same = same-answers; alike = same_runs }
+pub returns-in_default : goal.returns-in_default
+returns-in_default g c = record { due = search rules; told = search rules; same = same-answers; alike = same_runs }
 
 pub loop-i-init : goal.loop-i-init
 loop-i-init g c =
@@ -36,8 +36,8 @@ loop-i-init g c =
     o.opened.1 shelf ∙ ap (λ (t : Store). opened t.capacity shelf) (sym o.text) in
     (refl, search rules, underway_first s c.args.answers.now w e)
 
-pub give-in-part-requires : goal.give-in-part-requires
-give-in-part-requires g c =
+pub give_in_part-requires : goal.give_in_part-requires
+give_in_part-requires g c =
     let n = length c.args.script.now in
     let room = has_room (length c.args.answers.now) n (length c.args.sheets.now) c.args.size (search rules) in
     record
@@ -60,8 +60,8 @@ loop-i-preserved g c =
     let t = g.T.LineStore.meaning c.loop-i.text in
     let k = g.K.LineStore.meaning c.loop-i.keep in
     let l : Left = record { answers = c.loop-i.answers; sheets = c.loop-i.sheets; world = world_of c.loop-i.session t k (g.S.Shelf.meaning c.loop-i.shelf) } in
-    let w = world_of c.give-in-part.new.session (g.T.LineStore.meaning c.give-in-part.new.text) (g.K.LineStore.meaning c.give-in-part.new.keep)
-    (g.S.Shelf.meaning c.give-in-part.new.shelf) in
+    let w = world_of c.give_in_part.new.session (g.T.LineStore.meaning c.give_in_part.new.text) (g.K.LineStore.meaning c.give_in_part.new.keep)
+    (g.S.Shelf.meaning c.give_in_part.new.shelf) in
     let line = (get_or c.args.script.now i none).now in
     let wide = (at + c.args.size) - at in
     let size : wide ≡ c.args.size = omega arith in
@@ -72,11 +72,11 @@ loop-i-preserved g c =
     (sym own) size in
     let il : i < length lines = omega (arith, length-map c.args.script.now (λ (r : Bor (List ℕ)). r.now), c.loop-i-test.true) in
     let ia : i < length c.loop-i.answers = omega (arith, room.0, c.loop-i.auto.answers, c.loop-i-test.true) in
-    let e = c.give-in-part.ensures in (
+    let e = c.give_in_part.ensures in (
       e.capacities.0 ∙ c.loop-i.invariant.0,
       e.capacities.1 ∙ c.loop-i.invariant.1,
-      underway_given s i at wide l (handed_in t k line (take wide (drop at c.loop-i.sheets))) c.give-in-part.result c.give-in-part.new.sheets w c.loop-i.invariant.2 il ia fits
-          c.give-in-part.auto.sheets size h e.answer e.sheet e.world,
+      underway_given s i at wide l (handed_in t k line (take wide (drop at c.loop-i.sheets))) c.give_in_part.result c.give_in_part.new.sheets w c.loop-i.invariant.2 il ia fits
+          c.give_in_part.auto.sheets size h e.answer e.sheet e.world,
     )
 
 pub returns : goal.returns

@@ -19,7 +19,7 @@ returns-in-Some g c =
     let given = handed_in t k c.args.line.now sheet in
     let d = given_away w given c.in-Some.fault (c.in-Some.ensures h) in
     record {
-      answer = ap answer_of c.turn-away.ensures ∙ ap (λ (r : Reply). r.answer) d;
+      answer = ap answer_of c.turn_away.ensures ∙ ap (λ (r : Reply). r.answer) d;
       sheet = ap (λ (r : Reply). r.sheet) d;
       world = ap (λ (r : Reply). r.world) d;
       capacities = (refl, refl);
@@ -34,7 +34,7 @@ enter-outcome-requires g c =
     let w = world_of s t k h in
     let sheet = c.args.sheet.now in
     let given = handed_in t k c.args.line.now sheet in
-    let passed = entry_passed w given (sym (c.in-default.ensures h)) in
+    let passed = entry_passed w given (sym (c.in_default.ensures h)) in
     let within : s.current ≤ length (seen_lines t) = passed.within in
     record {
       seated = record { text = sym passed.text; keep = sym passed.keep; within = omega (arith, within, length_seen t) };
@@ -59,7 +59,7 @@ returns g c =
     let r = c.enter-outcome.result in
     let after = c.enter-outcome.new.sheet in
     let says = c.enter-outcome.ensures.outcome in
-    let d = given_in w given (c.in-default.ensures h) in
+    let d = given_in w given (c.in_default.ensures h) in
     record {
       answer = ap answer_of c.answer.ensures.answer ∙ replied_answer w v o r sheet after says ∙ ap (λ (x : Reply). x.answer) d;
       sheet = c.answer.ensures.sheet ∙ replied_sheet w v o r sheet after says ∙ ap (λ (x : Reply). x.sheet) d;

@@ -35,15 +35,15 @@ returns g c =
     let h = g.S.Shelf.meaning c.args.shelf.now in
     let w = world_of c.args.session.now t k h in
     let sheet = c.args.sheet.now in
-    let v = world_of c.run-global-ran.new.session (g.T.LineStore.meaning c.run-global-ran.new.text) (g.K.LineStore.meaning c.run-global-ran.new.keep) (g.S.Shelf.meaning c.run-global-ran.new.shelf) in
+    let v = world_of c.run_global-ran.new.session (g.T.LineStore.meaning c.run_global-ran.new.text) (g.K.LineStore.meaning c.run_global-ran.new.keep) (g.S.Shelf.meaning c.run_global-ran.new.shelf) in
     let a = addresses_view c.args.addresses in
     let room = length sheet - 16 in
     let go : Range → Outcome = λ r. globally room w (wanted (chooser_view c.args.chooser) r) (commands_of c.args.list.now) in
     let d : go (span_or c.in-Ok.range) ≡ by_command room w a (global (chooser_view c.args.chooser) c.args.list.now) = ap (λ (x : Read Range). or_refusal w x go) c.in-Ok.ensures.value in
-    let ran = c.run-global-ran.result in
-    let told = c.run-global-ran.ensures in
+    let ran = c.run_global-ran.result in
+    let told = c.run_global-ran.ensures in
     record {
-      outcome = subst (λ (o : Outcome). Says o (record { at = ran.at; fault = ran.fault; chosen = ran.chosen; turns = ran.turns }) sheet c.run-global-ran.new.sheet v) d
+      outcome = subst (λ (o : Outcome). Says o (record { at = ran.at; fault = ran.fault; chosen = ran.chosen; turns = ran.turns }) sheet c.run_global-ran.new.sheet v) d
           (record { at = told.at; fault = told.fault; chosen = told.chosen; turns = told.turns; sheet = told.sheet; world = told.world; room = λ _. told.room });
       capacities = told.capacities;
     }

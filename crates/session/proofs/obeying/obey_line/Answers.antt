@@ -17,7 +17,7 @@ returns-in-Err g c =
     let sheet = c.args.sheet.now in
     let room = length sheet - 16 in
     let f = c.in-Err.fault in
-    let d = line_read room w c.args.bytes.now text_of c.args.session.now.name c.is-some.result refl c.is-some.ensures (Err f) c.in-Err.ensures in
+    let d = line_read room w c.args.bytes.now text_of c.args.session.now.name c.is_some.result refl c.is_some.ensures (Err f) c.in-Err.ensures in
     record {
       outcome = subst (λ (o : Outcome). Says o c.refused.result sheet sheet w) d (says-refusal w w f c.refused.result sheet sheet c.requires.room c.refused.ensures refl refl);
       capacities = (refl, refl);
@@ -32,7 +32,7 @@ returns-in-Ok g c =
     let sheet = c.args.sheet.now in
     let v = world_of c.obey.new.session (g.T.LineStore.meaning c.obey.new.text) (g.K.LineStore.meaning c.obey.new.keep) (g.S.Shelf.meaning c.obey.new.shelf) in
     let room = length sheet - 16 in
-    let d = line_read room w c.args.bytes.now text_of c.args.session.now.name c.is-some.result refl c.is-some.ensures (Ok (said_view c.in-Ok.said)) c.in-Ok.ensures in
+    let d = line_read room w c.args.bytes.now text_of c.args.session.now.name c.is_some.result refl c.is_some.ensures (Ok (said_view c.in-Ok.said)) c.in-Ok.ensures in
     record {
       outcome = subst (λ (o : Outcome). Says o c.obey.result sheet c.obey.new.sheet v) d c.obey.ensures.outcome;
       capacities = c.obey.ensures.capacities;

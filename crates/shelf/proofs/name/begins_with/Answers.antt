@@ -5,5 +5,5 @@ use Rattle.shelf.proofs.name.begins_with.Goals as goal
 
 pub returns : goal.returns
 returns c =
-    let d = slice_eq-Decides Decides-eqb _ _ _ c.starts-with.ensures.value in
+    let d = slice_eq-Decides Decides-eqb _ _ _ c.starts_with.ensures.value in
     search (rules, same_from_decides, bytes_eq-Decides)

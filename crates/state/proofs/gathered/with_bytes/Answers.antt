@@ -4,4 +4,4 @@ use Rattle.state.proofs.gathered.with_bytes.Goals as goal
 
 pub returns : goal.returns
 returns c =
-    put-over c.args.at _ c.args.bytes c.copy-from-slice.new.self c.args.piece.now (search rules) refl (omega arith)
+    put-over c.args.at _ c.args.bytes c.copy_from_slice.new.self c.args.piece.now (search rules) refl (omega arith)

@@ -14,8 +14,8 @@ returns g c =
     let s = c.args.substitution in
     let best = last_new 0 0 (pieces_of s c.args.range t) in
     let all = after s c.args.range t in
-    let r = c.reckon-lines.result in
-    let h = subst (λ (k : Reckoned). Tallied all best k) (sym c.reckon-lines.ensures) (tallied s c.args.range t (g.met.T.LineStore.sound c.args.text.now)) in
+    let r = c.reckon_lines.result in
+    let h = subst (λ (k : Reckoned). Tallied all best k) (sym c.reckon_lines.ensures) (tallied s c.args.range t (g.met.T.LineStore.sound c.args.text.now)) in
     record {
       count = h.count;
       fits = h.fits;

@@ -34,10 +34,10 @@ loop-i-preserved g c =
     let k = c.loop-i.sum in
     let here : i < length t.lines = omega (arith, c.args.range.within, c.requires.count) in (
       ap (λ (x : Reckoned). reckoned_pieces x (rewritten s r (i + 1 + 1) (drop (i + 1) (seen_lines t))))
-          (c.reckon-line-sum.ensures.value ∙ ap (λ (b : List ℕ). reckoned_pieces k (pieces_for s (i + 1) b)) (sym (seen_text t i here)))
+          (c.reckon_line-sum.ensures.value ∙ ap (λ (b : List ℕ). reckoned_pieces k (pieces_for s (i + 1) b)) (sym (seen_text t i here)))
           ∙ reckoned_next s r k i (seen_lines t) (seen stored.blank) (omega arith) (omega arith) (omega arith)
           ∙ c.loop-i.invariant.0,
-      c.reckon-line-sum.ensures.count,
+      c.reckon_line-sum.ensures.count,
     )
 
 pub returns : goal.returns

@@ -10,21 +10,21 @@ use Rattle.substituting.proofs.Placing.{Putting, putting_more, putting_over, spe
 use Rattle.substituting.proofs.Through.{none_left}
 use Rattle.substituting.proofs.rewriting.put_lines.Goals as goal
 
-pub put-line-requires : goal.put-line-requires
-put-line-requires g c =
+pub put_line-requires : goal.put_line-requires
+put_line-requires g c =
     let s = substitution_view c.args.substitution in
     let t = c.args.line.now in
     let all = lines_left s t c.loop-cursor.cursor in
-    let rest = lines_left s t c.next-line-next.result.cursor in
+    let rest = lines_left s t c.next_line-next.result.cursor in
     let p = subst (λ (ls : List (List ℕ)). Putting (substituted s t) (g.T.LineStore.meaning c.args.text.now) (g.T.LineStore.meaning c.loop-cursor.text) c.args.behind c.loop-cursor.done ls)
-    c.next-line-next.ensures.rest c.loop-cursor.invariant.0 in
+    c.next_line-next.ensures.rest c.loop-cursor.invariant.0 in
     let f = (and_parts (fitting (first_of all)) (all_fit rest) p.fits).0 in
-    let w = c.next-line-next.ensures.line in
+    let w = c.next_line-next.ensures.line in
     record {
       behind = p.behind;
       room = omega (arith, p.room);
-      size = omega (arith, spelled_short (first_of all) c.next-line-next.new.out c.next-line-next.result.size f w, c.next-line-next.auto.out, c.loop-cursor.auto.out, c.requires.full);
-      fits = ap fitting (spelled_out (first_of all) c.next-line-next.new.out c.next-line-next.result.size f w) ∙ f;
+      size = omega (arith, spelled_short (first_of all) c.next_line-next.new.out c.next_line-next.result.size f w, c.next_line-next.auto.out, c.loop-cursor.auto.out, c.requires.full);
+      fits = ap fitting (spelled_out (first_of all) c.next_line-next.new.out c.next_line-next.result.size f w) ∙ f;
     }
 
 pub loop-cursor-preserved : goal.loop-cursor-preserved
@@ -32,16 +32,16 @@ loop-cursor-preserved g c =
     let s = substitution_view c.args.substitution in
     let t = c.args.line.now in
     let all = lines_left s t c.loop-cursor.cursor in
-    let rest = lines_left s t c.next-line-next.result.cursor in
+    let rest = lines_left s t c.next_line-next.result.cursor in
     let now = g.T.LineStore.meaning c.loop-cursor.text in
     let b = c.loop-cursor.done in
     let p = subst (λ (ls : List (List ℕ)). Putting (substituted s t) (g.T.LineStore.meaning c.args.text.now) now c.args.behind b ls)
-    c.next-line-next.ensures.rest c.loop-cursor.invariant.0 in
+    c.next_line-next.ensures.rest c.loop-cursor.invariant.0 in
     let f = (and_parts (fitting (first_of all)) (all_fit rest) p.fits).0 in
-    let e = spelled_out (first_of all) c.next-line-next.new.out c.next-line-next.result.size f c.next-line-next.ensures.line in (
-      putting_more (substituted s t) (g.T.LineStore.meaning c.args.text.now) now (g.T.LineStore.meaning c.put-line.new.text) c.args.behind b (first_of all) rest p
-          (c.put-line.ensures.lines ∙ ap (λ (x : List ℕ). take b (seen_lines now) ++ (created x ∷ drop b (seen_lines now))) e) c.put-line.ensures.capacity,
-      c.next-line-next.ensures.placed,
+    let e = spelled_out (first_of all) c.next_line-next.new.out c.next_line-next.result.size f c.next_line-next.ensures.line in (
+      putting_more (substituted s t) (g.T.LineStore.meaning c.args.text.now) now (g.T.LineStore.meaning c.put_line.new.text) c.args.behind b (first_of all) rest p
+          (c.put_line.ensures.lines ∙ ap (λ (x : List ℕ). take b (seen_lines now) ++ (created x ∷ drop b (seen_lines now))) e) c.put_line.ensures.capacity,
+      c.next_line-next.ensures.placed,
     )
 
 pub returns : goal.returns

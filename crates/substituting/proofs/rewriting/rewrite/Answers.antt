@@ -7,9 +7,9 @@ pub returns : goal.returns
 returns g c =
     let t = g.T.LineStore.meaning c.args.text.now in
     let range = c.args.range in
-    let e = c.rewrite-lines.ensures.lines in
+    let e = c.rewrite_lines.ensures.lines in
     record {
       lines = e;
-      capacity = c.rewrite-lines.ensures.capacity;
+      capacity = c.rewrite_lines.ensures.capacity;
       front = ap (λ (ls : List Line). take (range.first - 1) ls) e ∙ front_kept c.args.substitution range t c.requires.count;
     }

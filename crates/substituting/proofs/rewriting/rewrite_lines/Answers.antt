@@ -14,8 +14,8 @@ loop-i-init g c =
     underway_start (substitution_view c.args.substitution) (span_behind range) t (range.first - 1) (omega arith)
     (omega (arith, range.order, range.within, c.requires.count))
 
-pub rewrite-line-done-requires : goal.rewrite-line-done-requires
-rewrite-line-done-requires g c =
+pub rewrite_line-done-requires : goal.rewrite_line-done-requires
+rewrite_line-done-requires g c =
     let t = g.T.LineStore.meaning c.args.text.now in
     let now = g.T.LineStore.meaning c.loop-i.text in
     let range = c.args.range in
@@ -45,9 +45,9 @@ loop-i-preserved g c =
     let here : i < length (seen_lines t) = omega (arith, range.within, c.requires.count, c.loop-i-test.true) in
     let low : range.first - 1 + 1 ≤ i + 1 = omega (arith, c.loop-i.auto) in
     let high : i + 1 ≤ range.last = omega (arith, c.loop-i-test.true) in
-    let d = c.rewrite-line-done.ensures in
+    let d = c.rewrite_line-done.ensures in
     underway_next (substitution_view c.args.substitution) (span_behind range) t (g.T.LineStore.meaning c.loop-i.text) i c.loop-i.done c.loop-i.invariant here low high
-    (g.T.LineStore.meaning c.rewrite-line-done.new.text) c.rewrite-line-done.result d.lines d.capacity d.done
+    (g.T.LineStore.meaning c.rewrite_line-done.new.text) c.rewrite_line-done.result d.lines d.capacity d.done
 
 pub returns : goal.returns
 returns g c =

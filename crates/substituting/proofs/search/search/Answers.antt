@@ -4,10 +4,10 @@ use Rattle.rules.specs.Patterns.{found, found_in}
 use Rattle.substituting.proofs.Searching.{answered}
 use Rattle.substituting.proofs.search.search.Goals as goal
 
-pub returns-in-default : goal.returns-in-default
+pub returns-in_default : goal.returns-in_default
 unfolding found
-returns-in-default c =
-    record { value = ap (λ p. found_in c.args.line.now p c.args.from) (sym (ap viewed c.in-default.is) ∙ c.requires.reading); within = tt }
+returns-in_default c =
+    record { value = ap (λ p. found_in c.args.line.now p c.args.from) (sym (ap viewed c.in_default.is) ∙ c.requires.reading); within = tt }
 
 pub returns-in-Ok-find : goal.returns-in-Ok-find
 unfolding found

@@ -13,23 +13,23 @@ returns-then-cursor-eq0 c =
     subst (λ (r : Step). Stepped s t k r) (sym c.finish.ensures)
     (finished s t k c.requires.going c.requires.filled c.requires.placed (matches-zero k s.sought t c.if-cursor-eq0.true))
 
-pub returns-in-default : goal.returns-in-default
-returns-in-default c =
+pub returns-in_default : goal.returns-in_default
+returns-in_default c =
     let s = substitution_view c.args.substitution in
     let t = c.args.text.now in
     let k = c.args.cursor in
-    subst (λ (r : Step). Stepped s t k r) (sym c.finish-in-default.ensures)
-    (finished s t k c.requires.going c.requires.filled c.requires.placed (matches_unfound k s.sought t (sym c.in-default.ensures.value)))
+    subst (λ (r : Step). Stepped s t k r) (sym c.finish-in_default.ensures)
+    (finished s t k c.requires.going c.requires.filled c.requires.placed (matches_unfound k s.sought t (sym c.in_default.ensures.value)))
 
-pub returns-then-is-empty-again : goal.returns-then-is-empty-again
-returns-then-is-empty-again c =
+pub returns-then-is_empty_again : goal.returns-then-is_empty_again
+returns-then-is_empty_again c =
     let s = substitution_view c.args.substitution in
     let t = c.args.text.now in
     let k = c.args.cursor in
     let w = c.in-Some.ensures.within in
     subst (λ (r : Step). Stepped s t k r) (sym c.pass.ensures)
     (passed s t k c.in-Some.run' c.requires.going c.requires.filled c.requires.placed (omega (arith, c.if-cursor-eq0.false))
-    (sym c.in-Some.ensures.value) (sym c.if-is-empty-again.ensures) w.0)
+    (sym c.in-Some.ensures.value) (sym c.if-is_empty_again.ensures) w.0)
 
 pub returns : goal.returns
 returns c =
@@ -39,4 +39,4 @@ returns c =
     let w = c.in-Some.ensures.within in
     subst (λ (r : Step). Stepped (substitution_view s) t k r) (sym c.replace.ensures)
     (replaces s t k c.in-Some.run' c.requires.going c.requires.filled c.requires.placed (omega (arith, c.if-cursor-eq0.false))
-    (sym c.in-Some.ensures.value) (sym c.if-is-empty-again.ensures) w.0 w.1 w.2)
+    (sym c.in-Some.ensures.value) (sym c.if-is_empty_again.ensures) w.0 w.1 w.2)

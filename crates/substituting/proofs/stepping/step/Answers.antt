@@ -10,5 +10,5 @@ returns-in-Some c =
     let s = substitution_view c.args.substitution in
     let t = c.args.text.now in
     let k = c.args.cursor in
-    subst (λ (x : Token). Stepped s t k (record { token = x; cursor = with_bits k c.in-Some.bits })) (sym c.token-of.ensures)
+    subst (λ (x : Token). Stepped s t k (record { token = x; cursor = with_bits k c.in-Some.bits })) (sym c.token_of.ensures)
     (bit-done s t k c.in-Some.bit c.in-Some.bits c.requires.going c.requires.placed c.in-Some.ensures)

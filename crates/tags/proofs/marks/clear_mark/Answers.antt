@@ -6,7 +6,7 @@ use Rattle.tags.proofs.marks.clear_mark.Goals as goal
 
 pub loop-i-preserved : goal.loop-i-preserved
 loop-i-preserved g c =
-    walked_more (with_mark (bit_of c.args.mark.letter) false) c.loop-i.i _ _ _ c.loop-i.invariant c.take-mark.ensures.lines c.take-mark.ensures.capacity
+    walked_more (with_mark (bit_of c.args.mark.letter) false) c.loop-i.i _ _ _ c.loop-i.invariant c.take_mark.ensures.lines c.take_mark.ensures.capacity
 
 pub returns : goal.returns
 returns g c = record {

@@ -5,5 +5,5 @@ use Rattle.tags.proofs.one_line.bears.Goals as goal
 
 pub returns : goal.returns
 returns g c =
-    told (g.T.LineStore.meaning c.args.text.now) c.args.n c.tag-of.result c.has-mark.result
-    (has_mark (bit_of c.args.mark.letter)) c.tag-of.ensures.value c.has-mark.ensures
+    told (g.T.LineStore.meaning c.args.text.now) c.args.n c.tag_of.result c.has_mark.result
+    (has_mark (bit_of c.args.mark.letter)) c.tag_of.ensures.value c.has_mark.ensures

@@ -7,8 +7,8 @@ use Rattle.tags.proofs.one_line.choose.Goals as goal
 pub returns : goal.returns
 returns g c = record {
   lines =
-      changed (g.T.LineStore.meaning c.args.text.now) _ c.args.n c.tag-of-tag.result c.chosen-as.result
-      (choosing c.args.chosen) c.requires.0 c.requires.1 c.retag.ensures c.tag-of-tag.ensures.value c.chosen-as.ensures.seen;
-  count = changed-count (g.T.LineStore.meaning c.args.text.now) _ c.args.n c.chosen-as.result c.retag.ensures;
+      changed (g.T.LineStore.meaning c.args.text.now) _ c.args.n c.tag_of-tag.result c.chosen_as.result
+      (choosing c.args.chosen) c.requires.0 c.requires.1 c.retag.ensures c.tag_of-tag.ensures.value c.chosen_as.ensures.seen;
+  count = changed-count (g.T.LineStore.meaning c.args.text.now) _ c.args.n c.chosen_as.result c.retag.ensures;
   capacity = ap (λ (s : Store). s.capacity) c.retag.ensures;
 }

@@ -8,8 +8,8 @@ use Rattle.tags.proofs.one_line.take_mark.Goals as goal
 pub returns : goal.returns
 returns g c = record {
   lines =
-      changed (g.T.LineStore.meaning c.args.text.now) _ c.args.n c.tag-of-tag.result c.without-mark.result
-      (with_mark (bit_of c.args.mark.letter) false) c.requires.0 c.requires.1 c.retag.ensures c.tag-of-tag.ensures.value c.without-mark.ensures.seen;
-  count = changed-count (g.T.LineStore.meaning c.args.text.now) _ c.args.n c.without-mark.result c.retag.ensures;
+      changed (g.T.LineStore.meaning c.args.text.now) _ c.args.n c.tag_of-tag.result c.without_mark.result
+      (with_mark (bit_of c.args.mark.letter) false) c.requires.0 c.requires.1 c.retag.ensures c.tag_of-tag.ensures.value c.without_mark.ensures.seen;
+  count = changed-count (g.T.LineStore.meaning c.args.text.now) _ c.args.n c.without_mark.result c.retag.ensures;
   capacity = ap (λ (s : Store). s.capacity) c.retag.ensures;
 }

@@ -4,22 +4,22 @@ use Rattle.rules.specs.Lines.{seen}
 use Rattle.tags.proofs.Bearing.{same_mark, more_mark, more-below}
 use Rattle.tags.proofs.tag.with_mark.Goals as goal
 
-pub returns-then-has-mark : goal.returns-then-has-mark
-returns-then-has-mark c = record {
-  seen = λ t. same_mark t c.args.tag (bit_of c.args.mark.letter) (omega arith) true (sym (c.if-has-mark.ensures t));
+pub returns-then-has_mark : goal.returns-then-has_mark
+returns-then-has_mark c = record {
+  seen = λ t. same_mark t c.args.tag (bit_of c.args.mark.letter) (omega arith) true (sym (c.if-has_mark.ensures t));
   defined = λ h. h;
 }
 
-below : (c : goal.After-only-mark) (n : ℕ) → 26 ≤ n → c.args.tag < 2 ^ n → c.args.tag + 2 ^ bit_of c.args.mark.letter < 2 ^ n
+below : (c : goal.After-only_mark) (n : ℕ) → 26 ≤ n → c.args.tag < 2 ^ n → c.args.tag + 2 ^ bit_of c.args.mark.letter < 2 ^ n
 below c n le h =
-    more-below [] c.args.tag (bit_of c.args.mark.letter) (omega arith) n le (sym (c.if-has-mark.ensures [])) h
+    more-below [] c.args.tag (bit_of c.args.mark.letter) (omega arith) n le (sym (c.if-has_mark.ensures [])) h
 
 pub overflow-add-result : goal.overflow-add-result
 overflow-add-result c = let fits = below c 32 (omega arith) (omega arith) in omega arith
 
 pub returns : goal.returns
 returns c = record {
-  seen = λ t. ap (λ p. seen (record { text = t; tag = c.args.tag + p })) c.only-mark.ensures
-      ∙ more_mark t c.args.tag (bit_of c.args.mark.letter) (omega arith) (sym (c.if-has-mark.ensures t));
+  seen = λ t. ap (λ p. seen (record { text = t; tag = c.args.tag + p })) c.only_mark.ensures
+      ∙ more_mark t c.args.tag (bit_of c.args.mark.letter) (omega arith) (sym (c.if-has_mark.ensures t));
   defined = λ h. let fits = below c 27 (omega arith) h in omega arith;
 }

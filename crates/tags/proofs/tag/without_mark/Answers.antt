@@ -6,18 +6,18 @@ use Rattle.tags.proofs.tag.without_mark.Goals as goal
 
 pub overflow-sub-result : goal.overflow-sub-result
 overflow-sub-result c =
-    let within = bit-within [] c.args.tag (bit_of c.args.mark.letter) (omega arith) (sym (c.if-has-mark.ensures [])) in
+    let within = bit-within [] c.args.tag (bit_of c.args.mark.letter) (omega arith) (sym (c.if-has_mark.ensures [])) in
     omega arith
 
-pub returns-then-has-mark : goal.returns-then-has-mark
-returns-then-has-mark c = record {
-  seen = λ t. ap (λ p. seen (record { text = t; tag = c.args.tag - p })) c.only-mark.ensures
-      ∙ less_mark t c.args.tag (bit_of c.args.mark.letter) (omega arith) (sym (c.if-has-mark.ensures t));
+pub returns-then-has_mark : goal.returns-then-has_mark
+returns-then-has_mark c = record {
+  seen = λ t. ap (λ p. seen (record { text = t; tag = c.args.tag - p })) c.only_mark.ensures
+      ∙ less_mark t c.args.tag (bit_of c.args.mark.letter) (omega arith) (sym (c.if-has_mark.ensures t));
   defined = λ h. omega arith;
 }
 
 pub returns : goal.returns
 returns c = record {
-  seen = λ t. same_mark t c.args.tag (bit_of c.args.mark.letter) (omega arith) false (sym (c.if-has-mark.ensures t));
+  seen = λ t. same_mark t c.args.tag (bit_of c.args.mark.letter) (omega arith) false (sym (c.if-has_mark.ensures t));
   defined = λ h. h;
 }

@@ -3,8 +3,8 @@ use Rattle.std.proofs.lemmas.List.{places}
 use Rattle.std.proofs.lemmas.Slice.{overwrites}
 use Rattle.chain_store.proofs.slot.Slot.fill.Goals as goal
 
-pub invariant-of-self : goal.invariant-of-self
-invariant-of-self c = (search (rules, places), (search (rules, overwrites), (search rules, tt)))
+pub invariant_of-self : goal.invariant_of-self
+invariant_of-self c = (search (rules, places), (search (rules, overwrites), (search rules, tt)))
 
 pub returns : goal.returns
 returns c = search (rules, overwrites)

@@ -3,7 +3,7 @@ use Rattle.chain_store.specs.Fields.{number_of-slot, found}
 use Rattle.chain_store.proofs.store.ChainStore.find.Goals as goal
 
 pub overflow-sub-result : goal.overflow-sub-result
-overflow-sub-result c = number_of-slot c.args.self.now c.args.n _ (omega arith) (omega arith) c.number-at.ensures.value
+overflow-sub-result c = number_of-slot c.args.self.now c.args.n _ (omega arith) (omega arith) c.number_at.ensures.value
 
 pub returns : goal.returns
-returns c = found c.args.self.now c.args.n _ (omega arith) (omega arith) c.number-at.ensures.value
+returns c = found c.args.self.now c.args.n _ (omega arith) (omega arith) c.number_at.ensures.value

@@ -8,25 +8,25 @@ use Rattle.chain_store.proofs.store.ChainStore.put_line.Goals as goal
 
 pub overflow-sub-free : goal.overflow-sub-free
 overflow-sub-free c =
-    (put-slot c.args.self.now c.args.behind c.number-at-place.result c.index.result.now c.requires.place c.requires.room c.number-at-place.ensures.value c.index.ensures).0
+    (put-slot c.args.self.now c.args.behind c.number_at-place.result c.index.result.now c.requires.place c.requires.room c.number_at-place.ensures.value c.index.ensures).0
 
 pub index-mut-requires : goal.index-mut-requires
 index-mut-requires c =
-    let w = (put-slot c.args.self.now c.args.behind c.number-at-place.result c.index.result.now c.requires.place c.requires.room c.number-at-place.ensures.value c.index.ensures).1 in
+    let w = (put-slot c.args.self.now c.args.behind c.number_at-place.result c.index.result.now c.requires.place c.requires.room c.number_at-place.ensures.value c.index.ensures).1 in
     omega arith
 
-pub invariant-of-self : goal.invariant-of-self
-invariant-of-self c =
+pub invariant_of-self : goal.invariant_of-self
+invariant_of-self c =
     let s = c.args.self.now in
     let after = vec_items (with_items s.links c.relink.new.links) in
-    let r : after ≡ relinked (vec_items s.links) 1 c.number-at-place.result = search (rules, with_items_is) in
-    let d = put_now s c.args.behind c.number-at-place.result c.index.result.now c.requires.place c.requires.room c.number-at-place.ensures.value c.index.ensures after c.fill.new.self r in
+    let r : after ≡ relinked (vec_items s.links) 1 c.number_at-place.result = search (rules, with_items_is) in
+    let d = put_now s c.args.behind c.number_at-place.result c.index.result.now c.requires.place c.requires.room c.number_at-place.ensures.value c.index.ensures after c.fill.new.self r in
     facts d.kept
 
 pub returns : goal.returns
 returns c =
     let s = c.args.self.now in
     let after = vec_items (with_items s.links c.relink.new.links) in
-    let r : after ≡ relinked (vec_items s.links) 1 c.number-at-place.result = search (rules, with_items_is) in
-    let d = put_now s c.args.behind c.number-at-place.result c.index.result.now c.requires.place c.requires.room c.number-at-place.ensures.value c.index.ensures after c.fill.new.self r in
+    let r : after ≡ relinked (vec_items s.links) 1 c.number_at-place.result = search (rules, with_items_is) in
+    let d = put_now s c.args.behind c.number_at-place.result c.index.result.now c.requires.place c.requires.room c.number_at-place.ensures.value c.index.ensures after c.fill.new.self r in
     search rules

@@ -6,17 +6,17 @@ use Rattle.chain_store.proofs.Changes.{remove_now}
 use Rattle.chain_store.specs.Kept.{facts}
 use Rattle.chain_store.proofs.store.ChainStore.remove_line.Goals as goal
 
-pub invariant-of-self : goal.invariant-of-self
-invariant-of-self c =
+pub invariant_of-self : goal.invariant_of-self
+invariant_of-self c =
     let s = c.args.self.now in
     let after = vec_items (with_items s.links c.relink.new.links) in
-    let r : after ≡ relinked (vec_items s.links) c.number-at-place.result 1 = search (rules, with_items_is) in
-    facts (remove_now s c.args.n c.number-at-place.result (omega arith) (omega arith) c.number-at-place.ensures.value after r).kept
+    let r : after ≡ relinked (vec_items s.links) c.number_at-place.result 1 = search (rules, with_items_is) in
+    facts (remove_now s c.args.n c.number_at-place.result (omega arith) (omega arith) c.number_at-place.ensures.value after r).kept
 
 pub returns : goal.returns
 returns c =
     let s = c.args.self.now in
     let after = vec_items (with_items s.links c.relink.new.links) in
-    let r : after ≡ relinked (vec_items s.links) c.number-at-place.result 1 = search (rules, with_items_is) in
-    let d = remove_now s c.args.n c.number-at-place.result (omega arith) (omega arith) c.number-at-place.ensures.value after r in
+    let r : after ≡ relinked (vec_items s.links) c.number_at-place.result 1 = search (rules, with_items_is) in
+    let d = remove_now s c.args.n c.number_at-place.result (omega arith) (omega arith) c.number_at-place.ensures.value after r in
     search rules

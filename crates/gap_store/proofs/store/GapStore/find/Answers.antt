@@ -8,4 +8,4 @@ unfolding meaning_of
 returns c =
     let s = c.args.self.now in
     let count = count_of s in
-    located s c.args.n c.place-of.result (search rules) (search rules) c.place-of.ensures.value c.place-of.ensures.within c.index.result.now c.index.ensures
+    located s c.args.n c.place_of.result (search rules) (search rules) c.place_of.ensures.value c.place_of.ensures.within c.index.result.now c.index.ensures

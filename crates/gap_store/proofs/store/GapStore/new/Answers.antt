@@ -4,11 +4,11 @@ use Rattle.gap_store.specs.Meaning.{meaning_of}
 use Rattle.gap_store.specs.Edits.{made_behind, made-lines}
 use Rattle.gap_store.proofs.store.GapStore.new.Goals as goal
 
-pub invariant-of-result : goal.invariant-of-result
+pub invariant_of-result : goal.invariant_of-result
 unfolding meaning_of
-invariant-of-result c =
+invariant_of-result c =
     let rows = vec_items c.in-Ok.rows in
-    let bytes = vec_items c.in-Ok-from-elem.bytes in
+    let bytes = vec_items c.in-Ok-from_elem.bytes in
     let n = c.args.capacity in (
       search rules,
       (
@@ -36,7 +36,7 @@ pub returns : goal.returns
 unfolding meaning_of
 returns c =
     let rows = vec_items c.in-Ok.rows in
-    let bytes = vec_items c.in-Ok-from-elem.bytes in
+    let bytes = vec_items c.in-Ok-from_elem.bytes in
     let n = c.args.capacity in
     let none = made-lines rows bytes n (n * 255) (search rules) (search rules) in
     search rules

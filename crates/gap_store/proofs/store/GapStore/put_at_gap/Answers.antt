@@ -11,9 +11,9 @@ free : (s : GapStore) → length (meaning_of s).lines < (meaning_of s).capacity 
 unfolding meaning_of
 free s h = let count = count_of s in let order = s.order in let last = s.last in omega arith
 
-pub overwrite-vec-requires : goal.overwrite-vec-requires
+pub overwrite_vec-requires : goal.overwrite_vec-requires
 unfolding meaning_of
-overwrite-vec-requires c =
+overwrite_vec-requires c =
     let s = c.args.self.now in
     let text = c.args.text.now in
     put-room s s.row_gap.start refl (free s c.requires.free) text c.args.tag c.requires.fits (overwritten (vec_items s.bytes) s.byte_gap.start text) refl
@@ -29,15 +29,15 @@ overflow-add-self-2 c =
     let room = put-room s s.row_gap.start refl (free s c.requires.free) text c.args.tag c.requires.fits (overwritten (vec_items s.bytes) s.byte_gap.start text) refl in
     search rules
 
-pub invariant-of-self : goal.invariant-of-self
+pub invariant_of-self : goal.invariant_of-self
 unfolding meaning_of
-invariant-of-self c =
+invariant_of-self c =
     let s = c.args.self.now in
     let n = s.row_gap.start in
-    let bytes = vec_items c.overwrite-vec.new.bytes in
+    let bytes = vec_items c.overwrite_vec.new.bytes in
     let text = c.args.text.now in
     let less = free s c.requires.free in
-    let long = put-long s n refl (free s c.requires.free) text c.args.tag c.requires.fits bytes c.overwrite-vec.ensures in (
+    let long = put-long s n refl (free s c.requires.free) text c.args.tag c.requires.fits bytes c.overwrite_vec.ensures in (
       search rules,
       (
         search (rules, length-set),
@@ -48,10 +48,10 @@ invariant-of-self c =
             (
               search (rules, length-set),
               (
-                put-laid s n refl (free s c.requires.free) text c.args.tag c.requires.fits bytes c.overwrite-vec.ensures,
+                put-laid s n refl (free s c.requires.free) text c.args.tag c.requires.fits bytes c.overwrite_vec.ensures,
                 (
-                  put_rest s n refl (free s c.requires.free) text c.args.tag c.requires.fits bytes c.overwrite-vec.ensures,
-                  (put_each s n refl (free s c.requires.free) text c.args.tag c.requires.fits bytes c.overwrite-vec.ensures, tt),
+                  put_rest s n refl (free s c.requires.free) text c.args.tag c.requires.fits bytes c.overwrite_vec.ensures,
+                  (put_each s n refl (free s c.requires.free) text c.args.tag c.requires.fits bytes c.overwrite_vec.ensures, tt),
                 ),
               ),
             ),
@@ -64,5 +64,5 @@ pub returns : goal.returns
 unfolding meaning_of
 returns c =
     let s = c.args.self.now in
-    let makes = put_makes s s.row_gap.start refl (free s c.requires.free) c.args.text.now c.args.tag c.requires.fits (vec_items c.overwrite-vec.new.bytes) c.overwrite-vec.ensures in
+    let makes = put_makes s s.row_gap.start refl (free s c.requires.free) c.args.text.now c.args.tag c.requires.fits (vec_items c.overwrite_vec.new.bytes) c.overwrite_vec.ensures in
     search (rules, length-set)

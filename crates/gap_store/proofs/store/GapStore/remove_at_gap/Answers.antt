@@ -3,8 +3,8 @@ use Rattle.gap_store.specs.Meaning.{meaning_of}
 use Rattle.gap_store.specs.Stored.{remove-laid, remove_makes, remove_each}
 use Rattle.gap_store.proofs.store.GapStore.remove_at_gap.Goals as goal
 
-pub invariant-of-self : goal.invariant-of-self
-invariant-of-self c =
+pub invariant_of-self : goal.invariant_of-self
+invariant_of-self c =
     let s = c.args.self.now in
     let n = s.row_gap.start in
     let order = s.order in (

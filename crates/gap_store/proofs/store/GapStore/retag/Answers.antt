@@ -4,13 +4,13 @@ use Rattle.gap_store.specs.Meaning.{meaning_of}
 use Rattle.gap_store.specs.Stored.{count_of, retag_front, retag_behind, retag-lines, retag_each}
 use Rattle.gap_store.proofs.store.GapStore.retag.Goals as goal
 
-pub invariant-of-self : goal.invariant-of-self
+pub invariant_of-self : goal.invariant_of-self
 unfolding meaning_of
-invariant-of-self c =
+invariant_of-self c =
     let s = c.args.self.now in
     let count = count_of s in
-    let i = c.place-of-i.result in
-    let at = c.place-of-i.ensures in
+    let i = c.place_of-i.result in
+    let at = c.place_of-i.ensures in
     let r = c.index-row.result.now in
     let one : 1 ≤ c.args.n = search rules in
     let le : c.args.n ≤ s.row_gap.start + (length (vec_items s.rows) - s.row_gap.end) = search rules in (
@@ -41,6 +41,6 @@ unfolding meaning_of
 returns c =
     let s = c.args.self.now in
     let count = count_of s in
-    let at = c.place-of-i.ensures in
-    let lines = retag-lines s c.args.n c.place-of-i.result (search rules) (search rules) at.value at.within c.index-row.result.now c.index-row.ensures c.args.tag in
+    let at = c.place_of-i.ensures in
+    let lines = retag-lines s c.args.n c.place_of-i.result (search rules) (search rules) at.value at.within c.index-row.result.now c.index-row.ensures c.args.tag in
     search (rules, length-set)

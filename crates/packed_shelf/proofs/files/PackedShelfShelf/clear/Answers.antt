@@ -10,6 +10,6 @@ pub returns-in-Some : goal.returns-in-Some
 returns-in-Some c =
     let s = c.args.self.now in
     let t = packed (vec_items s.rows) (vec_items s.bytes) in
-    let good : is_name c.args.name.now ≡ true = sym c.is-name.ensures ∙ c.if-not-is-name.false in
+    let good : is_name c.args.name.now ≡ true = sym c.is_name.ensures ∙ c.if-not-is_name.false in
     let h = clear_old t c.args.name.now c.args.size good refl c.in-Some.file (packed-sound (vec_items s.rows) (vec_items s.bytes) (kept s)).few (sym c.in-Some.ensures) in
-    record { value = c.empty-old.ensures.value ∙ sym h.0; after = c.empty-old.ensures.after ∙ sym h.1 }
+    record { value = c.empty_old.ensures.value ∙ sym h.0; after = c.empty_old.ensures.after ∙ sym h.1 }

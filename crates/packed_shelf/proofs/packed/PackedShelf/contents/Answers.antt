@@ -7,13 +7,13 @@ use Rattle.packed_shelf.specs.Moved.{file-lies}
 use Rattle.packed_shelf.specs.State.{kept, placed-from}
 use Rattle.packed_shelf.proofs.packed.PackedShelf.contents.Goals as goal
 
-start_is : (c : goal.After-as-slice-3) → c.start-of-start.result ≡ start_at (vec_items c.args.self.now.rows) c.in-Some.place
-start_is c = c.start-of-start.ensures ∙ ap (λ (rs : List Row). total (take c.in-Some.place rs)) c.as-slice.ensures.value
+start_is : (c : goal.After-as_slice-3) → c.start_of-start.result ≡ start_at (vec_items c.args.self.now.rows) c.in-Some.place
+start_is c = c.start_of-start.ensures ∙ ap (λ (rs : List Row). total (take c.in-Some.place rs)) c.as_slice.ensures.value
 
-end_is : (c : goal.After-as-slice-3) → c.start-of-end.result ≡ end_at (vec_items c.args.self.now.rows) c.in-Some.place
-end_is c = c.start-of-end.ensures ∙ ap (λ (rs : List Row). total (take (c.in-Some.place + 1) rs)) c.as-slice-2.ensures.value
+end_is : (c : goal.After-as_slice-3) → c.start_of-end.result ≡ end_at (vec_items c.args.self.now.rows) c.in-Some.place
+end_is c = c.start_of-end.ensures ∙ ap (λ (rs : List Row). total (take (c.in-Some.place + 1) rs)) c.as_slice-2.ensures.value
 
-lies : (c : goal.After-as-slice-3) → (c.start-of-start.result ≤ c.start-of-end.result) × (c.start-of-end.result ≤ length (vec_items c.args.self.now.bytes))
+lies : (c : goal.After-as_slice-3) → (c.start_of-start.result ≤ c.start_of-end.result) × (c.start_of-end.result ≤ length (vec_items c.args.self.now.bytes))
 lies c =
     let h = file-lies (vec_items c.args.self.now.rows) c.in-Some.place c.in-Some.ensures.within in
     let w = c.args.self.now.within in
@@ -35,11 +35,11 @@ returns c =
     let s = c.args.self.now in
     let p = c.in-Some.place in
     let h = placed-contents (vec_items s.rows) (vec_items s.bytes) (kept s) c.args.file p (placed-from c.in-Some.ensures) in
-    let a : c.start-of-start.result ≡ start_at (vec_items s.rows) p = c.start-of-start.ensures ∙ ap (λ (rs : List Row). total (take p rs)) c.as-slice.ensures.value in
-    let b : c.start-of-end.result ≡ end_at (vec_items s.rows) p = c.start-of-end.ensures ∙ ap (λ (rs : List Row). total (take (p + 1) rs)) c.as-slice-2.ensures.value in (
+    let a : c.start_of-start.result ≡ start_at (vec_items s.rows) p = c.start_of-start.ensures ∙ ap (λ (rs : List Row). total (take p rs)) c.as_slice.ensures.value in
+    let b : c.start_of-end.result ≡ end_at (vec_items s.rows) p = c.start_of-end.ensures ∙ ap (λ (rs : List Row). total (take (p + 1) rs)) c.as_slice-2.ensures.value in (
       h.0,
-      ap (λ (xs : List ℕ). take (c.start-of-end.result - c.start-of-start.result) (drop c.start-of-start.result xs)) c.as-slice-3.ensures.value
-          ∙ (ap (λ (n : ℕ). take (c.start-of-end.result - n) (drop n (vec_items s.bytes))) a
+      ap (λ (xs : List ℕ). take (c.start_of-end.result - c.start_of-start.result) (drop c.start_of-start.result xs)) c.as_slice-3.ensures.value
+          ∙ (ap (λ (n : ℕ). take (c.start_of-end.result - n) (drop n (vec_items s.bytes))) a
           ∙ (ap (λ (n : ℕ). take (n - start_at (vec_items s.rows) p) (drop (start_at (vec_items s.rows) p) (vec_items s.bytes))) b
           ∙ sym h.1)),
     )

@@ -31,11 +31,11 @@ returns-then-size-free c =
     let a = old_full rows bytes (kept s) c.args.file c.in-Some.place placed r c.index.ensures c.args.size over in
     search rules
 
-pub invariant-of-self-2 : goal.invariant-of-self-2
-invariant-of-self-2 c =
+pub invariant_of-self-2 : goal.invariant_of-self-2
+invariant_of-self-2 c =
     let s = c.args.self.now in
-    let k = (emptied_left s c.args.file c.in-Some.place (placed-from c.in-Some.ensures) _ c.empty-file.new.rows _ c.empty-file.new.bytes
-    c.as-mut-slice.ensures.value c.as-mut-slice-2.ensures.value c.empty-file.ensures.rows c.empty-file.ensures.bytes).0 in
+    let k = (emptied_left s c.args.file c.in-Some.place (placed-from c.in-Some.ensures) _ c.empty_file.new.rows _ c.empty_file.new.bytes
+    c.as_mut_slice.ensures.value c.as_mut_slice-2.ensures.value c.empty_file.ensures.rows c.empty_file.ensures.bytes).0 in
     (k.few, (s.reserved, (k.bounded, (k.within, (k.numbered, (k.named, (k.apart, tt)))))))
 
 pub returns : goal.returns
@@ -53,7 +53,7 @@ returns c =
     record {
       value = sym a;
       after =
-          (emptied_left s c.args.file c.in-Some.place placed _ c.empty-file.new.rows _ c.empty-file.new.bytes
-          c.as-mut-slice.ensures.value c.as-mut-slice-2.ensures.value c.empty-file.ensures.rows c.empty-file.ensures.bytes).1
+          (emptied_left s c.args.file c.in-Some.place placed _ c.empty_file.new.rows _ c.empty_file.new.bytes
+          c.as_mut_slice.ensures.value c.as_mut_slice-2.ensures.value c.empty_file.ensures.rows c.empty_file.ensures.bytes).1
           ∙ sym (ap (λ (q : Result ℕ ShelfFault). cond (is_ok q) (with_files t (old_emptied t c.args.file)) t) a);
     }

@@ -11,20 +11,20 @@ use Rattle.shelf.specs.Shelf.{held}
 room-from : (s : PackedShelf) (n : ℕ) → held (meaning_of s).files + n ≤ (meaning_of s).capacity → total (vec_items s.rows) + n ≤ length (vec_items s.bytes)
 room-from s n h = let e = held_is (vec_items s.rows) (vec_items s.bytes) (kept s) in omega arith
 
-pub lengthen-file-requires : goal.lengthen-file-requires
-lengthen-file-requires c =
+pub lengthen_file-requires : goal.lengthen_file-requires
+lengthen_file-requires c =
     let s = c.args.self.now in
     let room = room-from s (length c.args.more.now) c.requires.fits in
     let bounded = s.bounded in
     search rules
 
-pub invariant-of-self : goal.invariant-of-self
-invariant-of-self c =
+pub invariant_of-self : goal.invariant_of-self
+invariant_of-self c =
     let s = c.args.self.now in
     let more = c.args.more.now in
     let p = c.args.place in
-    let k = (longer_left s (number_at (vec_items s.rows) p) p (record { within = c.requires.within; number = refl }) _ c.lengthen-file.new.rows _ c.lengthen-file.new.bytes
-    c.as-mut-slice.ensures.value c.as-mut-slice-2.ensures.value more (room-from s (length more) c.requires.fits) c.lengthen-file.ensures.rows c.lengthen-file.ensures.bytes).0 in
+    let k = (longer_left s (number_at (vec_items s.rows) p) p (record { within = c.requires.within; number = refl }) _ c.lengthen_file.new.rows _ c.lengthen_file.new.bytes
+    c.as_mut_slice.ensures.value c.as_mut_slice-2.ensures.value more (room-from s (length more) c.requires.fits) c.lengthen_file.ensures.rows c.lengthen_file.ensures.bytes).0 in
     (k.few, (s.reserved, (k.bounded, (k.within, (k.numbered, (k.named, (k.apart, tt)))))))
 
 pub returns : goal.returns
@@ -32,5 +32,5 @@ returns c =
     let s = c.args.self.now in
     let more = c.args.more.now in
     let p = c.args.place in
-    (longer_left s (number_at (vec_items s.rows) p) p (record { within = c.requires.within; number = refl }) _ c.lengthen-file.new.rows _ c.lengthen-file.new.bytes
-    c.as-mut-slice.ensures.value c.as-mut-slice-2.ensures.value more (room-from s (length more) c.requires.fits) c.lengthen-file.ensures.rows c.lengthen-file.ensures.bytes).1
+    (longer_left s (number_at (vec_items s.rows) p) p (record { within = c.requires.within; number = refl }) _ c.lengthen_file.new.rows _ c.lengthen_file.new.bytes
+    c.as_mut_slice.ensures.value c.as_mut_slice-2.ensures.value more (room-from s (length more) c.requires.fits) c.lengthen_file.ensures.rows c.lengthen_file.ensures.bytes).1

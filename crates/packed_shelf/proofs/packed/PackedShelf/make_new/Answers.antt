@@ -12,8 +12,8 @@ use Rattle.packed_shelf.specs.Kept.{Kept, held_is}
 use Rattle.packed_shelf.specs.State.{kept}
 use Rattle.packed_shelf.proofs.packed.PackedShelf.make_new.Goals as goal
 
-pub returns-then-number-eq-FILES-MAX : goal.returns-then-number-eq-FILES-MAX
-returns-then-number-eq-FILES-MAX c =
+pub returns-then-number-eq-FILES_MAX : goal.returns-then-number-eq-FILES_MAX
+returns-then-number-eq-FILES_MAX c =
     let s = c.args.self.now in
     let m = s.rows.ok.0 in
     let many : length (vec_items s.rows) ≡ 8 = omega arith in
@@ -28,8 +28,8 @@ returns-then-size-free c =
     let a = new_full (vec_items s.rows) (vec_items s.bytes) (kept s) c.args.name.now c.args.size over in
     search rules
 
-pub invariant-of-self : goal.invariant-of-self
-invariant-of-self c =
+pub invariant_of-self : goal.invariant_of-self
+invariant_of-self c =
     let s = c.args.self.now in
     let rows = vec_items s.rows in
     let bytes = vec_items s.bytes in
@@ -40,7 +40,7 @@ invariant-of-self c =
     let k : Kept (rows ++ r ∷ []) bytes =
     new_kept rows bytes (kept s) r c.args.name.now (c.len-number.ensures ∙ m) c.in-Some.ensures.1 refl free c.requires.good
     (none_named (packed rows bytes) c.args.name.now c.requires.missing) in
-    let q : Kept (vec_items c.push-reserved.new.self) bytes = subst (λ (rs : List Row). Kept rs bytes) (sym c.push-reserved.ensures.items) k in
+    let q : Kept (vec_items c.push_reserved.new.self) bytes = subst (λ (rs : List Row). Kept rs bytes) (sym c.push_reserved.ensures.items) k in
     (q.few, (search rules, (q.bounded, (q.within, (q.numbered, (q.named, (q.apart, tt)))))))
 
 pub returns : goal.returns
@@ -60,7 +60,7 @@ returns c =
     record {
       value = ap Ok (c.len-number.ensures ∙ m) ∙ sym a;
       after =
-          ap (λ (rs : List Row). packed rs bytes) c.push-reserved.ensures.items
+          ap (λ (rs : List Row). packed rs bytes) c.push_reserved.ensures.items
           ∙ (new_after_lem rows bytes (kept s) r n (c.len-number.ensures ∙ m) c.in-Some.ensures.1 refl
           ∙ sym (ap (λ (q : Result ℕ ShelfFault). cond (is_ok q) (with_files t (new_made t n)) t) a));
     }

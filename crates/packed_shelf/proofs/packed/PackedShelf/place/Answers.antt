@@ -7,5 +7,5 @@ use Rattle.packed_shelf.proofs.packed.PackedShelf.place.Goals as goal
 pub returns : goal.returns
 returns c =
     let k = c.args.file in
-    let o = c.place-of.result in
-    found_from c.args.self.now k o (subst (λ (rs : List Row). MatchOption o (bearing k rs ≡ 0) (λ p. Placed rs k p)) c.as-slice.ensures.value c.place-of.ensures)
+    let o = c.place_of.result in
+    found_from c.args.self.now k o (subst (λ (rs : List Row). MatchOption o (bearing k rs ≡ 0) (λ p. Placed rs k p)) c.as_slice.ensures.value c.place_of.ensures)

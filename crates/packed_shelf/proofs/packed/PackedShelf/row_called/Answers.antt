@@ -11,7 +11,7 @@ returns-in-Some c =
     let s = c.args.self.now in
     let n = c.args.name.now in
     let r = c.index.result.now in
-    let called = subst (λ (rs : List Row). Called rs n c.in-Some.place) c.as-slice.ensures.value c.in-Some.ensures in
+    let called = subst (λ (rs : List Row). Called rs n c.in-Some.place) c.as_slice.ensures.value c.in-Some.ensures in
     lookup-row (vec_items s.rows) (vec_items s.bytes) (kept s) c.in-Some.place r called.within c.index.ensures n
     (ap (λ (x : Row). text_of x.name) c.index.ensures ∙ called.here r)
 
@@ -20,4 +20,4 @@ returns-in-None c =
     let s = c.args.self.now in
     let n = c.args.name.now in
     lookup_none (vec_items s.rows) (vec_items s.bytes) (kept s) n
-    (subst (λ (rs : List Row). NoneCalled rs n) c.as-slice.ensures.value c.in-None.ensures)
+    (subst (λ (rs : List Row). NoneCalled rs n) c.as_slice.ensures.value c.in-None.ensures)

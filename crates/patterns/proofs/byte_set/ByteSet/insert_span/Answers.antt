@@ -16,8 +16,8 @@ loop-byte-preserved c =
 pub returns : goal.returns
 returns c = absurd (omega arith)
 
-pub returns·2 : goal.returns·2
-returns·2 c =
+pub returns-2 : goal.returns-2
+returns-2 c =
     let last : c.loop-byte.byte ≡ c.args.high = omega arith in
     let s = table_of c.args.self.now.words in
     c.insert.ensures

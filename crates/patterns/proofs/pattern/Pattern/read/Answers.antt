@@ -11,10 +11,10 @@ returns-in-empty c =
 pub returns-in-94 : goal.returns-in-94
 returns-in-94 c =
     let h : get_or c.args.part.now 0 0 ≡ 94 = search rules in
-    simp take_rest at c.read-items.ensures ∙ sym (pattern_caret c.args.delimiter c.args.part.now h)
+    simp take_rest at c.read_items.ensures ∙ sym (pattern_caret c.args.delimiter c.args.part.now h)
 
-pub returns-in-default : goal.returns-in-default
-returns-in-default c =
+pub returns-in_default : goal.returns-in_default
+returns-in_default c =
     let h : 0 < length c.args.part.now = search rules in
     let n : get_or c.args.part.now 0 0 ≡ 94 → ⊥ = search rules in
-    c.read-items-in-default.ensures ∙ sym (pattern_plain c.args.delimiter c.args.part.now h n)
+    c.read_items-in_default.ensures ∙ sym (pattern_plain c.args.delimiter c.args.part.now h n)

@@ -16,29 +16,29 @@ returns-in-Some c =
     items-done c.args.front (eqb l.count 0) c.args.delimiter (64 - l.count) (map item_of (take l.count l.items)) (drop l.at c.args.part.now) c.args.part.now
     l.invariant.3 c.in-Some.back (simp take_rest at c.in-Some.ensures)
 
-pub returns-then-count-eq-ITEMS-MAX : goal.returns-then-count-eq-ITEMS-MAX
-returns-then-count-eq-ITEMS-MAX c =
+pub returns-then-count-eq-ITEMS_MAX : goal.returns-then-count-eq-ITEMS_MAX
+returns-then-count-eq-ITEMS_MAX c =
     let l = c.loop-back in
     items-over c.args.front (eqb l.count 0) c.args.delimiter (64 - l.count) (map item_of (take l.count l.items)) (drop l.at c.args.part.now) c.args.part.now
-    l.invariant.3 (omega arith) (simp take_rest at c.in-default.ensures)
+    l.invariant.3 (omega arith) (simp take_rest at c.in_default.ensures)
 
-pub returns-in-err-read : goal.returns-in-err-read
-returns-in-err-read c =
+pub returns-in_err-read : goal.returns-in_err-read
+returns-in_err-read c =
     let p = err_from_is_err_and c.from-residual.result c.from-residual.ensures.1 in
     let l = c.loop-back in
     rw (p.1, p.2)
     (items-bad c.args.front (eqb l.count 0) c.args.delimiter (64 - l.count) (map item_of (take l.count l.items)) (drop l.at c.args.part.now) c.args.part.now
-    l.invariant.3 c.in-err-read.field-0.0 (omega arith) (simp take_rest at c.in-default.ensures) (simp take_rest at c.in-err-read.ensures.value))
+    l.invariant.3 c.in_err-read.field-0.0 (omega arith) (simp take_rest at c.in_default.ensures) (simp take_rest at c.in_err-read.ensures.value))
 
 pub loop-back-preserved : goal.loop-back-preserved
 loop-back-preserved c =
     let l = c.loop-back in
     let part = c.args.part.now in
-    let read = c.in-ok-read.read in
+    let read = c.in_ok-read.read in
     let xs = map item_of (take l.count l.items) in
-    let w = simp (take_rest, length-drop) at c.in-ok-read.ensures.within in
+    let w = simp (take_rest, length-drop) at c.in_ok-read.ensures.within in
     let e = items_on c.args.front (eqb l.count 0) c.args.delimiter (64 - l.count) xs (drop l.at part) part
-    l.invariant.3 (item_of read.item) (drop read.used (drop l.at part)) (omega arith) (simp take_rest at c.in-default.ensures) (simp take_rest at c.in-ok-read.ensures.value) in
+    l.invariant.3 (item_of read.item) (drop read.used (drop l.at part)) (omega arith) (simp take_rest at c.in_default.ensures) (simp take_rest at c.in_ok-read.ensures.value) in
     let a : map item_of (take (l.count + 1) (set l.items l.count read.item)) ≡ xs ++ item_of read.item ∷ [] =
     ap (map item_of) (take_more_set l.items l.count read.item (omega arith)) ∙ map_push item_of (take l.count l.items) read.item in
     let n : 64 - (l.count + 1) ≡ 64 - l.count - 1 = omega arith in

@@ -6,34 +6,34 @@ use Rattle.patterns.specs.Reading.{set_at}
 use Rattle.patterns.proofs.Steps.{behind_one, set_brackets, set_escaped}
 use Rattle.patterns.proofs.pattern.read.read_set.Goals as goal
 
-pub returns-in-err-read : goal.returns-in-err-read
-returns-in-err-read c =
+pub returns-in_err-read : goal.returns-in_err-read
+returns-in_err-read c =
     let p = err_from_is_err_and c.from-residual.result c.from-residual.ensures.1 in
     let bs = c.args.rest.now in
     let begin : get_or bs 0 0 ≡ 91 = search rules in
-    let e = simp take_rest at c.in-err-read.ensures.value in
+    let e = simp take_rest at c.in_err-read.ensures.value in
     rw (p.1, p.2) (record { value = e ∙ sym (set_brackets c.args.delimiter c.args.first bs begin); within = tt })
 
-pub returns-in-ok-read : goal.returns-in-ok-read
-returns-in-ok-read c =
+pub returns-in_ok-read : goal.returns-in_ok-read
+returns-in_ok-read c =
     let bs = c.args.rest.now in
-    let read = c.in-ok-read.read in
+    let read = c.in_ok-read.read in
     let begin : get_or bs 0 0 ≡ 91 = search rules in
-    let e = simp take_rest at c.in-ok-read.ensures.value in
-    let w = simp (take_rest, length-drop) at c.in-ok-read.ensures.within in
+    let e = simp take_rest at c.in_ok-read.ensures.value in
+    let w = simp (take_rest, length-drop) at c.in_ok-read.ensures.within in
     record {
       value = behind_one bs (table_of read.set.words) read.used (set_at c.args.delimiter c.args.first bs)
           (e ∙ sym (set_brackets c.args.delimiter c.args.first bs begin));
       within = (omega arith, omega arith);
     }
 
-pub returns-in-ok-read-2 : goal.returns-in-ok-read-2
-returns-in-ok-read-2 c =
+pub returns-in_ok-read-2 : goal.returns-in_ok-read-2
+returns-in_ok-read-2 c =
     let bs = c.args.rest.now in
-    let read = c.in-ok-read-2.read in
+    let read = c.in_ok-read-2.read in
     let begin : get_or bs 0 0 ≡ 92 = search rules in
-    let e = simp take_rest at c.in-ok-read-2.ensures.value in
-    let w = simp (take_rest, length-drop) at c.in-ok-read-2.ensures.within in
+    let e = simp take_rest at c.in_ok-read-2.ensures.value in
+    let w = simp (take_rest, length-drop) at c.in_ok-read-2.ensures.within in
     record {
       value = behind_one bs (table_of read.set.words) read.used (set_at c.args.delimiter c.args.first bs)
           (e ∙ sym (set_escaped c.args.delimiter c.args.first bs begin));

@@ -2,8 +2,8 @@ use Rattle.std.proofs.Common.{◌≤◌, length, take, ap, ◌∙◌, arith, rul
 use Rattle.shelf.proofs.Padding.{array_length, array_text}
 use Rattle.shelf.proofs.label.Label.new.Goals as goal
 
-pub invariant-of-result : goal.invariant-of-result
-invariant-of-result c = (search (rules, array_length), (search rules, tt))
+pub invariant_of-result : goal.invariant_of-result
+invariant_of-result c = (search (rules, array_length), (search rules, tt))
 
 pub returns : goal.returns
 returns c =
