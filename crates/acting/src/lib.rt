@@ -1,4 +1,6 @@
 // Obeying the commands that a list may hold too: deleting, marking, moving, printing, substituting, writing.
+#![tactic(auto)]
+
 pub mod act;
 pub mod acted;
 mod deleting;

@@ -1,3 +1,5 @@
 // The lines that a global chooses, in any store of lines.
+#![tactic(auto)]
+
 pub mod choose;
 mod wanting;

@@ -1,4 +1,6 @@
 // Tests of reading: tables of lines with what they say or the fault that they are refused with.
+#![tactic(auto)]
+
 #[cfg(test)]
 mod accepted;
 #[cfg(test)]

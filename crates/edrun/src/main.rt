@@ -1,5 +1,7 @@
 // The line editor at standard input: each line is given as soon as it is there, and what it prints goes to standard
 // output at once.
+#![tactic(auto)]
+
 mod editor;
 mod input;
 

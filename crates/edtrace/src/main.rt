@@ -1,4 +1,6 @@
 // Prints the trace of the script on standard input, over two gap stores.
+#![tactic(auto)]
+
 use anyhow::anyhow;
 use gap_store::GapStore;
 use std::alloc::Global;

@@ -1,4 +1,6 @@
 // The lines of a text written to a shelf as a file, and the lines of a file read into a text.
+#![tactic(auto)]
+
 mod count;
 mod counting;
 pub mod fault;

@@ -1,5 +1,7 @@
 // A line store with a gap: putting and removing lines at one place moves nothing, and moving that place
 // moves only the bytes between.
+#![tactic(auto)]
+
 mod bytes;
 mod gap;
 mod laying;

@@ -1,4 +1,6 @@
 // Lines, and what a store of lines promises. The interface only: no store is in this crate.
+#![tactic(auto)]
+
 pub mod fault;
 pub mod line;
 pub mod making;

@@ -1,4 +1,6 @@
 // Matching: the first longest match of a pattern in a line.
+#![tactic(auto)]
+
 mod answer;
 mod reach;
 mod search;

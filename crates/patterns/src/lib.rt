@@ -1,4 +1,6 @@
 // Patterns, the basic regular expressions over bytes: what they are, and reading one from its bytes.
+#![tactic(auto)]
+
 mod byte_set;
 mod fault;
 mod pattern;

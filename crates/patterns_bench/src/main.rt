@@ -1,5 +1,7 @@
 // Four searches to measure matching by. Usage: patterns_bench REPEATS [time]
 // It prints the matches that each finds, which do not vary, and with `time` also the nanoseconds a line takes.
+#![tactic(auto)]
+
 use anyhow::anyhow;
 use matching::find;
 use patterns::Pattern;

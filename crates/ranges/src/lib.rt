@@ -1,2 +1,4 @@
 // A range of lines that was worked out, as commands take it.
+#![tactic(auto)]
+
 pub mod range;

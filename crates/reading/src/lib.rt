@@ -1,4 +1,6 @@
 // Reading a command line: from the left, up to the first fault.
+#![tactic(auto)]
+
 mod address;
 mod addresses;
 mod letter;

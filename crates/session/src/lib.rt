@@ -1,4 +1,6 @@
 // The editor's surface: opening a session, giving it a line, and asking it what a display shows.
+#![tactic(auto)]
+
 pub mod answer;
 mod entry;
 pub mod giving;

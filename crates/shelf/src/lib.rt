@@ -1,4 +1,6 @@
 // Shelves: what a place for named files promises. The interface only: no shelf is in this crate.
+#![tactic(auto)]
+
 pub mod fault;
 pub mod interface;
 pub mod label;

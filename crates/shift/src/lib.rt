@@ -1,4 +1,6 @@
 // One shift for every kind of element: a run of `Copy` elements moves within its slice.
+#![tactic(auto)]
+
 ghost use Rattle.std.specs.Prelude.{◌≡◌, ℕ, ◌+◌, ◌≤◌, length};
 ghost use Rattle.shift.specs.Shift.{shifted, shift_answer, shift_after};
 

@@ -1,4 +1,6 @@
 // Both line stores under one table of calls, and beside a plain vector of lines.
+#![tactic(auto)]
+
 #[cfg(test)]
 mod agreement;
 #[cfg(test)]

@@ -1,4 +1,6 @@
 // The work of `s` on the lines of a range: what it would make of a text, and the rewriting itself.
+#![tactic(auto)]
+
 mod cursor;
 mod hits;
 pub mod reckoning;

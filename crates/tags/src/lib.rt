@@ -1,4 +1,6 @@
 // The marks and the chosen bits of lines, in any store of lines.
+#![tactic(auto)]
+
 pub mod chosen;
 pub mod marks;
 mod one_line;

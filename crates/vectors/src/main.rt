@@ -1,5 +1,7 @@
 // Runs every script of data/ over every pair of stores and compares its trace with the one that stands behind it.
 // Those traces were made by an independent implementation of the rules.
+#![tactic(auto)]
+
 mod difference;
 mod entry;
 mod stores;
