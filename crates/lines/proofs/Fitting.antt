@@ -1,11 +1,11 @@
 -- Every line of a store stays a line where one is put in, removed or has its tag set.
-use Rattle.std.proofs.Common.{◌≡◌, ℕ, ◌+◌, ◌-◌, ◌^◌, ◌<◌, ◌≤◌, true, false, cond, not, ◌&&◌, leb, ◌⊎◌, List, [], ◌∷◌, ◌++◌, length, get_or, take, drop, set, is_ok, Ok, Err, Result, sym, refl, ap, ◌∙◌, subst, inl, inr, ⊎_elim, arith, rules}
+use Rattle.std.proofs.Common.{◌≡◌, ℕ, ◌+◌, ◌-◌, ◌^◌, ◌<◌, ◌≤◌, true, cond, not, leb, List, [], ◌∷◌, ◌++◌, length, get_or, take, drop, set, is_ok, Ok, Result, sym, refl, ap, ◌∙◌, subst, ⊎_elim, arith}
 use Rattle.std.proofs.lemmas.List.{places, get_or-set_same, get_or-set_other}
 use Rattle.std.proofs.lemmas.Bool.{cases_eq, cases_lt, cases_order, and_parts, leb-true, not-true, ltb-true}
 use Rattle.lines.specs.Line.{Line, LineFits, holds_break, fitting, defined, blank}
 use Rattle.std.proofs.lemmas.Bool.Decides.{nat_tests}
 use Rattle.lines.specs.declared.fault.StoreFault.{StoreFault}
-use Rattle.lines.specs.Store.{Store, line_at, with_lines, inserted, put_check, put_answer, put_after}
+use Rattle.lines.specs.Store.{Store, with_lines, inserted, put_check, put_answer, put_after}
 
 -- every line of a list, and blank lines behind it
 abbrev pub Each : List Line → Type 0

@@ -1,6 +1,6 @@
 -- A line: a text of at most 255 bytes with no line break (byte 10) in it, and a tag.
 -- Bits 0 to 25 of a tag are the marks a to z, bit 26 means chosen, and there are no others.
-use Rattle.std.specs.Prelude.{◌≡◌, ℕ, ◌^◌, ◌<◌, ◌≤◌, Bool, true, false, not, ◌&&◌, ◌||◌, List, [], ◌∷◌, length, ◌==◌, nat_le, nat_lt}
+use Rattle.std.specs.Prelude.{◌≡◌, ℕ, ◌^◌, ◌<◌, ◌≤◌, Bool, false, not, ◌&&◌, ◌||◌, List, [], ◌∷◌, length, ◌==◌, nat_le, nat_lt}
 
 pub record Line : Type 0 where
   pub text : List ℕ

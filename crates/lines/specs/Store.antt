@@ -1,6 +1,6 @@
 -- What a line store means: a list of lines, numbered from 1, and a fixed capacity;
 -- what its questions answer, and what a change answers and leaves.
-use Rattle.std.specs.Prelude.{ℕ, ◌-◌, ◌≤◌, Bool, true, false, cond, not, ◌&&◌, List, [], ◌∷◌, ◌++◌, length, take, drop, set, is_ok, Ok, Err, Result, nat_le, slice_index_or, slice_set}
+use Rattle.std.specs.Prelude.{ℕ, ◌-◌, ◌≤◌, Bool, cond, not, ◌&&◌, List, [], ◌∷◌, ◌++◌, length, take, drop, is_ok, Ok, Err, Result, nat_le, slice_index_or, slice_set}
 use Rattle.lines.specs.declared.fault.StoreFault.{StoreFault}
 use Rattle.lines.specs.declared.fault.StoreFault.TheVariants.{Outside, Full, BadText, ShortBuffer}
 use Rattle.lines.specs.Line.{Line, LineFits, fitting, defined, blank}

@@ -1,5 +1,5 @@
 -- A text as it lies in an array: what a copy to the front of an array of zeros makes, how long that is, and how the text is read back.
-use Rattle.std.proofs.Common.{◌≡◌, ℕ, ◌+◌, ◌-◌, ◌≤◌, min, List, ◌++◌, length, take, drop, replicate, sym, refl, ap, ◌∙◌, arith, rules}
+use Rattle.std.proofs.Common.{◌≡◌, ℕ, ◌-◌, ◌≤◌, min, List, ◌++◌, length, take, drop, replicate, sym, refl, ap, ◌∙◌, arith, rules}
 use lib.ListN.{length-replicate}
 use Rattle.std.proofs.lemmas.List.{places, same_lists, take-take, take_at, take-replicate, drop-replicate}
 use Rattle.shelf.specs.Label.{in_array}

@@ -1,5 +1,5 @@
 -- Moving a run of elements within a list: what stands where afterwards, and when the run is outside the list.
-use Rattle.std.specs.Prelude.{ℕ, ◌+◌, Bool, true, false, cond, ◌&&◌, List, ◌++◌, length, take, drop, Ok, Err, Result, nat_le}
+use Rattle.std.specs.Prelude.{ℕ, ◌+◌, Bool, cond, ◌&&◌, List, ◌++◌, length, take, drop, Ok, Err, Result, nat_le}
 use Rattle.shift.specs.declared.ShiftFault.{ShiftFault}
 use Rattle.shift.specs.declared.ShiftFault.TheVariants.{Outside}
 

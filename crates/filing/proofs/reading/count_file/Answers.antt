@@ -14,8 +14,8 @@ count_chunk-count-requires g c =
     let size : c.unwrap-size.result ≡ length (file_in s c.args.file) = search rules in
     record { present = c.requires; ended = omega arith; pending = omega arith }
 
-pub overflow-add-place : goal.overflow-add-place
-overflow-add-place g c =
+pub overflow_add-place : goal.overflow_add-place
+overflow_add-place g c =
     let s = g.S.Shelf.meaning c.args.shelf.now in
     let bound = file-bounded s c.args.file (g.met.S.Shelf.sound c.args.shelf.now) c.requires in
     let size : c.unwrap-size.result ≡ length (file_in s c.args.file) = search rules in

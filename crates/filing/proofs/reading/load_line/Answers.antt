@@ -30,13 +30,13 @@ put_line-requires g c =
       defined = lit< tt;
     }
 
-pub overflow-add-result : goal.overflow-add-result
-overflow-add-result g c =
+pub overflow_add-result : goal.overflow_add-result
+overflow_add-result g c =
     let bound = file-bounded (g.S.Shelf.meaning c.args.shelf.now) c.args.file (g.met.S.Shelf.sound c.args.shelf.now) c.requires.present in
     search rules
 
-pub overflow-add-result-2 : goal.overflow-add-result-2
-overflow-add-result-2 g c =
+pub overflow_add-result-2 : goal.overflow_add-result-2
+overflow_add-result-2 g c =
     let bound = file-bounded (g.S.Shelf.meaning c.args.shelf.now) c.args.file (g.met.S.Shelf.sound c.args.shelf.now) c.requires.present in
     search rules
 

@@ -4,8 +4,8 @@ use Rattle.packed_shelf.specs.Moves.{sized}
 use Rattle.packed_shelf.specs.Moved.{total_all, behind_is, rows-emptied, bytes-emptied}
 use Rattle.packed_shelf.proofs.moves.empty_file.Goals as goal
 
-pub overflow-sub-used : goal.overflow-sub-used
-overflow-sub-used c =
+pub overflow_sub-used : goal.overflow_sub-used
+overflow_sub-used c =
     let rows = c.args.rows.now in
     let a = total_all rows in
     let b = behind_is rows c.args.place c.index-rows-place.result c.requires.within c.index-rows-place.is in

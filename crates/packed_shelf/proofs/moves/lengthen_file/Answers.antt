@@ -3,33 +3,33 @@ use borrow.Rule.Slice.PartMut.{put_mid}
 use Rattle.packed_shelf.specs.Moved.{total_all, end_is, behind_is, rows_lengthened_lem, bytes_lengthened_lem}
 use Rattle.packed_shelf.proofs.moves.lengthen_file.Goals as goal
 
-pub overflow-add-end : goal.overflow-add-end
-overflow-add-end c =
+pub overflow_add-end : goal.overflow_add-end
+overflow_add-end c =
     let rows = c.args.rows.now in
     let b = behind_is rows c.args.place c.index-rows-place.result c.requires.within c.index-rows-place.is in
     omega arith
 
-pub overflow-sub-used : goal.overflow-sub-used
-overflow-sub-used c =
+pub overflow_sub-used : goal.overflow_sub-used
+overflow_sub-used c =
     let rows = c.args.rows.now in
     let a = total_all rows in
     let b = behind_is rows c.args.place c.index-rows-place.result c.requires.within c.index-rows-place.is in
     omega arith
 
-pub overflow-add-end-2 : goal.overflow-add-end-2
-overflow-add-end-2 c =
+pub overflow_add-end-2 : goal.overflow_add-end-2
+overflow_add-end-2 c =
     let rows = c.args.rows.now in
     let b = behind_is rows c.args.place c.index-rows-place.result c.requires.within c.index-rows-place.is in
     omega arith
 
-pub slice-bounds-copy_from_slice-end : goal.slice-bounds-copy_from_slice-end
-slice-bounds-copy_from_slice-end c =
+pub slice_bounds-copy_from_slice-end : goal.slice_bounds-copy_from_slice-end
+slice_bounds-copy_from_slice-end c =
     let rows = c.args.rows.now in
     let b = behind_is rows c.args.place c.index-rows-place.result c.requires.within c.index-rows-place.is in
     omega arith
 
-pub overflow-add-rows : goal.overflow-add-rows
-overflow-add-rows c =
+pub overflow_add-rows : goal.overflow_add-rows
+overflow_add-rows c =
     let rows = c.args.rows.now in
     let e = end_is rows c.args.place c.index-rows-place.result c.requires.within c.index-rows-place.is in
     let b = behind_is rows c.args.place c.index-rows-place.result c.requires.within c.index-rows-place.is in

@@ -2,8 +2,8 @@ use Rattle.std.proofs.Common.{length, ap, arith}
 use Rattle.printing.proofs.Ranging.{left_none, left_range, left_length}
 use Rattle.printing.proofs.lines.printed_size.Goals as goal
 
-pub overflow-add-size : goal.overflow-add-size
-overflow-add-size g c = let sound = g.met.T.LineStore.sound c.args.text.now in omega arith
+pub overflow_add-size : goal.overflow_add-size
+overflow_add-size g c = let sound = g.met.T.LineStore.sound c.args.text.now in omega arith
 
 pub loop-i-preserved : goal.loop-i-preserved
 loop-i-preserved g c =

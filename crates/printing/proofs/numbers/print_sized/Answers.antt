@@ -4,8 +4,8 @@ use Rattle.printing.proofs.Digits.{number-length, more-length, some-digit}
 use Rattle.printing.proofs.Numbering.{break_first, digit_next, digit_last}
 use Rattle.printing.proofs.numbers.print_sized.Goals as goal
 
-pub overflow-sub-place : goal.overflow-sub-place
-overflow-sub-place c = let sized = number-length c.args.n in omega arith
+pub overflow_sub-place : goal.overflow_sub-place
+overflow_sub-place c = let sized = number-length c.args.n in omega arith
 
 pub bounds-sheet-place : goal.bounds-sheet-place
 bounds-sheet-place c = let sized = number-length c.args.n in omega arith
@@ -13,8 +13,8 @@ bounds-sheet-place c = let sized = number-length c.args.n in omega arith
 pub loop-rest-init : goal.loop-rest-init
 loop-rest-init c = let sized = number-length c.args.n in (omega arith, simp length-set (omega arith), refl)
 
-pub overflow-sub-place-in-loop-rest : goal.overflow-sub-place-in-loop-rest
-overflow-sub-place-in-loop-rest c = let some = some-digit c.loop-rest.rest in omega arith
+pub overflow_sub-place-in-loop-rest : goal.overflow_sub-place-in-loop-rest
+overflow_sub-place-in-loop-rest c = let some = some-digit c.loop-rest.rest in omega arith
 
 pub bounds-sheet-place-in-loop-rest : goal.bounds-sheet-place-in-loop-rest
 bounds-sheet-place-in-loop-rest c = let some = some-digit c.loop-rest.rest in omega arith

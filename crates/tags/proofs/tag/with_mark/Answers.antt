@@ -14,8 +14,8 @@ below : (c : goal.After-only_mark) (n : ℕ) → 26 ≤ n → c.args.tag < 2 ^ n
 below c n le h =
     more-below [] c.args.tag (bit_of c.args.mark.letter) (omega arith) n le (sym (c.if-has_mark.ensures [])) h
 
-pub overflow-add-result : goal.overflow-add-result
-overflow-add-result c = let fits = below c 32 (omega arith) (omega arith) in omega arith
+pub overflow_add-result : goal.overflow_add-result
+overflow_add-result c = let fits = below c 32 (omega arith) (omega arith) in omega arith
 
 pub returns : goal.returns
 returns c = record {

@@ -4,8 +4,8 @@ use Rattle.rules.specs.Lines.{seen}
 use Rattle.tags.proofs.Bearing.{same_mark, bit-within, less_mark}
 use Rattle.tags.proofs.tag.without_mark.Goals as goal
 
-pub overflow-sub-result : goal.overflow-sub-result
-overflow-sub-result c =
+pub overflow_sub-result : goal.overflow_sub-result
+overflow_sub-result c =
     let within = bit-within [] c.args.tag (bit_of c.args.mark.letter) (omega arith) (sym (c.if-has_mark.ensures [])) in
     omega arith
 

@@ -21,14 +21,14 @@ lies c =
     let b = end_is c in
     (omega arith, omega arith)
 
-pub slice-bounds-result-count : goal.slice-bounds-result-count
-slice-bounds-result-count c = (lies c).0
+pub slice_bounds-result-count : goal.slice_bounds-result-count
+slice_bounds-result-count c = (lies c).0
 
-pub slice-bounds-result-start : goal.slice-bounds-result-start
-slice-bounds-result-start c = (lies c).0
+pub slice_bounds-result-start : goal.slice_bounds-result-start
+slice_bounds-result-start c = (lies c).0
 
-pub slice-bounds-result-end : goal.slice-bounds-result-end
-slice-bounds-result-end c = let l = lies c in search rules
+pub slice_bounds-result-end : goal.slice_bounds-result-end
+slice_bounds-result-end c = let l = lies c in search rules
 
 pub returns : goal.returns
 returns c =

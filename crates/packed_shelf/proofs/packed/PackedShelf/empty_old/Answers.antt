@@ -10,8 +10,8 @@ use Rattle.packed_shelf.specs.Kept.{held_is}
 use Rattle.packed_shelf.specs.State.{kept, placed-from, emptied_left}
 use Rattle.packed_shelf.proofs.packed.PackedShelf.empty_old.Goals as goal
 
-pub overflow-add-free : goal.overflow-add-free
-overflow-add-free c =
+pub overflow_add-free : goal.overflow_add-free
+overflow_add-free c =
     let s = c.args.self.now in
     let h = held_is (vec_items s.rows) (vec_items s.bytes) (kept s) in
     let o = old_held (vec_items s.rows) (vec_items s.bytes) (kept s) c.args.file c.in-Some.place (placed-from c.in-Some.ensures) c.index.result.now c.index.ensures in
@@ -36,7 +36,15 @@ invariant_of-self-2 c =
     let s = c.args.self.now in
     let k = (emptied_left s c.args.file c.in-Some.place (placed-from c.in-Some.ensures) _ c.empty_file.new.rows _ c.empty_file.new.bytes
     c.as_mut_slice.ensures.value c.as_mut_slice-2.ensures.value c.empty_file.ensures.rows c.empty_file.ensures.bytes).0 in
-    (k.few, (s.reserved, (k.bounded, (k.within, (k.numbered, (k.named, (k.apart, tt)))))))
+    record {
+      few = k.few;
+      reserved = s.reserved;
+      bounded = k.bounded;
+      within = k.within;
+      numbered = k.numbered;
+      named = k.named;
+      apart = k.apart;
+    }
 
 pub returns : goal.returns
 returns c =

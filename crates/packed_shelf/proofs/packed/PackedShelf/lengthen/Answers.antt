@@ -25,7 +25,15 @@ invariant_of-self c =
     let p = c.args.place in
     let k = (longer_left s (number_at (vec_items s.rows) p) p (record { within = c.requires.within; number = refl }) _ c.lengthen_file.new.rows _ c.lengthen_file.new.bytes
     c.as_mut_slice.ensures.value c.as_mut_slice-2.ensures.value more (room-from s (length more) c.requires.fits) c.lengthen_file.ensures.rows c.lengthen_file.ensures.bytes).0 in
-    (k.few, (s.reserved, (k.bounded, (k.within, (k.numbered, (k.named, (k.apart, tt)))))))
+    record {
+      few = k.few;
+      reserved = s.reserved;
+      bounded = k.bounded;
+      within = k.within;
+      numbered = k.numbered;
+      named = k.named;
+      apart = k.apart;
+    }
 
 pub returns : goal.returns
 returns c =

@@ -41,7 +41,15 @@ invariant_of-self c =
     new_kept rows bytes (kept s) r c.args.name.now (c.len-number.ensures ∙ m) c.in-Some.ensures.1 refl free c.requires.good
     (none_named (packed rows bytes) c.args.name.now c.requires.missing) in
     let q : Kept (vec_items c.push_reserved.new.self) bytes = subst (λ (rs : List Row). Kept rs bytes) (sym c.push_reserved.ensures.items) k in
-    (q.few, (search rules, (q.bounded, (q.within, (q.numbered, (q.named, (q.apart, tt)))))))
+    record {
+      few = q.few;
+      reserved = search rules;
+      bounded = q.bounded;
+      within = q.within;
+      numbered = q.numbered;
+      named = q.named;
+      apart = q.apart;
+    }
 
 pub returns : goal.returns
 returns c =

@@ -1,9 +1,0 @@
-use Rattle.std.proofs.Common.{rules}
-use Rattle.std.proofs.lemmas.Slice.Eq.{slice_eq-Decides, bytes_eq-Decides}
-use Rattle.std.proofs.lemmas.Bool.Decides.{same_from_decides, Decides-eqb}
-use Rattle.shelf.proofs.name.begins_with.Goals as goal
-
-pub returns : goal.returns
-returns c =
-    let d = slice_eq-Decides Decides-eqb _ _ _ c.starts_with.ensures.value in
-    search (rules, same_from_decides, bytes_eq-Decides)
