@@ -1,9 +1,9 @@
 -- The longest run at the head of some bytes: what `longest_run` computes is the longest that fits.
-use Rattle.std.proofs.Common.{◌≡◌, ℕ, zero, suc, ◌+◌, ◌-◌, ◌<◌, ◌≤◌, max, Bool, true, false, ◌⊎◌, List, [], ◌∷◌, ◌++◌, length, take, Some, None, Option, sym, refl, ap, ◌∙◌, subst, inl, inr, suc-le-suc, le_trans, le_of_suc-le-suc, arith}
+use Rattle.std.proofs.Common.{◌≡◌, ℕ, zero, suc, ◌≤◌, max, Bool, true, false, ◌⊎◌, List, [], ◌∷◌, ◌++◌, length, take, Some, None, Option, sym, refl, ap, subst, inl, inr, suc-le-suc, le_trans, le_of_suc-le-suc, arith}
 use Rattle.std.proofs.lemmas.Bool.{both_ways}
 use Rattle.patterns.specs.Sets.{Set, has}
 use Rattle.patterns.specs.Items.{Bytes, Item}
-use Rattle.matching.specs.Fitting.{Within, Piece, Pieces, joined, Fits}
+use Rattle.matching.specs.Fitting.{Within, Pieces, joined, Fits}
 use Rattle.matching.specs.Matching.{longer, further, once, many, finish, longest_run}
 
 -- the greatest of the numbers with a property, if there is one

@@ -1,12 +1,11 @@
 -- The match from a place: what `match_from` computes is the first longest match, and the only right answer.
-use Rattle.std.proofs.Common.{◌≡◌, ℕ, zero, suc, ◌+◌, ◌-◌, ◌<◌, ◌≤◌, Bool, true, false, cond, ◌&&◌, ltb, ◌⊎◌, List, [], ◌∷◌, ◌++◌, length, get_or, take, drop, IfSome, Some, None, Option, sym, refl, ap, ◌∙◌, subst, inl, inr, ⊎_elim, add-zero, zero-add, add-one, arith}
-use Rattle.std.specs.List.{between}
+use Rattle.std.proofs.Common.{◌≡◌, ℕ, zero, suc, ◌+◌, ◌-◌, ◌<◌, ◌≤◌, Bool, true, false, cond, ◌&&◌, ltb, [], ◌∷◌, length, get_or, take, drop, IfSome, Some, None, Option, sym, refl, ap, ◌∙◌, subst, ⊎_elim, add-one, arith}
 use Rattle.std.proofs.lemmas.List.{drop_more, drop_all, length-drop}
 use Rattle.std.proofs.lemmas.Bool.{both_ways, lt-ltb, le-ltb, cases_lt, cases_eq, or_left, or_right, or_from, and_from, and_left, and_right}
 use Rattle.matching.specs.declared.answer.Match.{Match}
-use Rattle.patterns.specs.Items.{Bytes, Item, Pattern}
+use Rattle.patterns.specs.Items.{Bytes, Pattern}
 use Rattle.matching.specs.Fitting.{Fits, FitsAt}
-use Rattle.matching.specs.Matching.{FirstLongest, IsMatch, longest_run, found_at, first_from, no_start, match_from, MatchingRight, MatchingOne}
+use Rattle.matching.specs.Matching.{IsMatch, longest_run, found_at, first_from, no_start, match_from, MatchingRight, MatchingOne}
 use Rattle.matching.proofs.Fitted.{IsBest, Head, longest_right}
 
 -- the last start that counts

@@ -4,7 +4,7 @@ use Rattle.std.specs.List.{between}
 use Rattle.std.specs.Option.{option_map}
 use Rattle.std.proofs.lemmas.List.Edits.{between_none, between_more, length-between}
 use Rattle.std.proofs.lemmas.List.{append-nil, append_assoc, length-append, length-drop, same_from_push, get_or-set_same, get_or-set_other, nil_from_length}
-use Rattle.std.proofs.lemmas.Bool.{both_ways, cases_eq, cases_lt, and_parts, and_from, or_cases, or_left, or_right, lt-ltb, ltb-true}
+use Rattle.std.proofs.lemmas.Bool.{both_ways, cases_eq, and_parts, and_from, or_cases, or_left, or_right, lt-ltb, ltb-true}
 use Rattle.patterns.specs.Sets.{Set, has}
 use Rattle.patterns.specs.Items.{Bytes, Item}
 use Rattle.matching.specs.Fitting.{Within, Piece, Pieces, joined, Fits}

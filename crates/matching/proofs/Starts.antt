@@ -1,13 +1,12 @@
 -- Starts at which nothing fits, and how a search goes past them.
-use Rattle.std.proofs.Common.{◌≡◌, ℕ, zero, suc, ◌+◌, ◌-◌, ◌<◌, ◌≤◌, Bool, true, false, cond, ◌⊎◌, List, [], ◌∷◌, map, length, get_or, drop, Some, None, Option, sym, refl, ap, ◌∙◌, subst, inl, inr, ⊎_elim, add-zero, arith}
+use Rattle.std.proofs.Common.{◌≡◌, ℕ, zero, suc, ◌+◌, ◌-◌, ◌<◌, ◌≤◌, Bool, true, false, List, [], ◌∷◌, map, length, get_or, drop, Some, None, Option, sym, refl, ap, ◌∙◌, ⊎_elim, add-zero, arith}
 use Rattle.std.specs.Option.{option_map}
 use Rattle.std.proofs.lemmas.List.{drop_more}
 use Rattle.std.proofs.lemmas.Bool.{cases_lt, cases_eq}
 use Rattle.patterns.specs.declared.pattern.Item.{Item as ItemCode}
-use Rattle.matching.specs.declared.answer.Match.{Match}
-use Rattle.patterns.specs.Sets.{Set, has}
+use Rattle.patterns.specs.Sets.{has}
 use Rattle.patterns.specs.Items.{Bytes, Item, Pattern}
-use Rattle.matching.specs.Matching.{longer, further, once, many, longest_run, found_at, match_from}
+use Rattle.matching.specs.Matching.{longer, further, once, many, longest_run, match_from}
 use Rattle.matching.specs.Rows.{longest_end}
 use Rattle.patterns.specs.View.{item_of}
 use Rattle.matching.proofs.Found.{last_start, or_later, match_past, match_step}

@@ -1,10 +1,9 @@
 -- Members inside brackets: one step of `members_at`, by what stands at its place.
-use Rattle.std.proofs.Common.{◌≡◌, ℕ, zero, suc, ◌+◌, ◌-◌, ◌<◌, ◌≤◌, Bool, true, false, not, ◌&&◌, eqb, ◌⊎◌, List, [], ◌∷◌, length, get_or, drop, Ok, Err, sym, refl, ap, ◌∙◌, inl, inr, arith}
+use Rattle.std.proofs.Common.{◌≡◌, ℕ, zero, suc, ◌+◌, ◌-◌, ◌<◌, ◌≤◌, Bool, true, false, not, ◌&&◌, eqb, ◌⊎◌, [], length, get_or, drop, Ok, Err, sym, refl, ap, ◌∙◌, inl, inr, arith}
 use Rattle.std.proofs.lemmas.List.{drop_more, drop_all, drop-drop}
 use Rattle.std.proofs.lemmas.Bool.{ne_eqb}
 use Rattle.std.proofs.lemmas.Bool.Decides.{nat_tests}
 use Rattle.patterns.specs.declared.fault.PatternFault.{PatternFault}
-use Rattle.patterns.specs.declared.fault.PatternFault.TheVariants.{Bad}
 use Rattle.patterns.specs.Sets.{Set, with_span}
 use Rattle.patterns.specs.Items.{Bytes}
 use Rattle.patterns.specs.Reading.{Read, ◌>>=◌, bad, closing, member_at, members_at}

@@ -1,11 +1,11 @@
 -- One step of each reader, by the byte that stands first.
-use Rattle.std.proofs.Common.{◌≡◌, ℕ, zero, suc, ◌+◌, ◌-◌, ◌<◌, ◌≤◌, Bool, true, false, cond, not, ◌&&◌, eqb, ◌⊎◌, List, [], ◌∷◌, ◌++◌, length, get_or, drop, Some, None, Ok, Err, Option, sym, refl, ap, ◌∙◌, inl, inr, arith}
+use Rattle.std.proofs.Common.{◌≡◌, ℕ, zero, suc, ◌+◌, ◌-◌, ◌<◌, ◌≤◌, Bool, true, false, cond, ◌⊎◌, List, [], ◌∷◌, ◌++◌, length, get_or, drop, Some, None, Ok, Err, Option, sym, refl, ap, ◌∙◌, inl, inr, arith}
 use Rattle.std.proofs.lemmas.List.{drop-drop, drop_more, drop_all, append_assoc, append-nil}
 use Rattle.std.proofs.lemmas.Bool.{eq-eqb, ne_eqb}
 use Rattle.patterns.specs.declared.fault.PatternFault.{PatternFault}
-use Rattle.patterns.specs.Sets.{Set, every, just, others}
+use Rattle.patterns.specs.Sets.{Set, others}
 use Rattle.patterns.specs.Items.{Bytes, Item, Pattern}
-use Rattle.patterns.specs.Reading.{Read, ◌>>=◌, bad, caret, dot, opening, backslash, star, inside_at, brackets_at, escaped_at, set_at, star_at, item_at, ending, items_at, body_at, pattern_of}
+use Rattle.patterns.specs.Reading.{Read, ◌>>=◌, bad, inside_at, brackets_at, escaped_at, set_at, star_at, item_at, ending, items_at, body_at, pattern_of}
 
 -- what is left behind one byte and `used` more
 pub behind_one : (bs : Bytes) (s : Set) (used : ℕ) (r : Read (Set × Bytes)) → Ok (s, drop used (drop 1 bs)) ≡ r → Ok (s, drop (1 + used) bs) ≡ r

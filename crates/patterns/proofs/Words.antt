@@ -1,5 +1,5 @@
 -- Bits of words: what `|` with one bit and `!` do to each bit.
-use Rattle.std.proofs.Common.{◌≡◌, ℕ, zero, suc, ◌+◌, ◌-◌, ◌*◌, ◌/◌, ◌%◌, ◌^◌, ◌<◌, ◌≤◌, Bool, true, false, cond, not, ◌&&◌, ◌||◌, eqb, leb, ◌⊎◌, List, [], ◌∷◌, map, length, get_or, set, sym, refl, ap, ◌∙◌, inl, inr, ⊎_elim, mul_comm, add-mul, one-mul, arith}
+use Rattle.std.proofs.Common.{◌≡◌, ℕ, zero, suc, ◌+◌, ◌-◌, ◌*◌, ◌/◌, ◌%◌, ◌^◌, ◌<◌, false, not, ◌&&◌, ◌||◌, eqb, leb, ◌⊎◌, List, [], ◌∷◌, map, length, get_or, set, sym, refl, ap, ◌∙◌, ⊎_elim, add-mul, one-mul, arith}
 use native.Mathlib.Nat.{mul-mod_left, div-eq_of_lt}
 use lib.Bits.{bit_or}
 use Rattle.std.proofs.lemmas.Nat.{or_shr, or_mod, pow-add, pow_pos, pow_below, shl-shr, shr_high, shr_split, shr_below, mod_below}

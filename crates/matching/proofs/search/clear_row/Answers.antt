@@ -1,4 +1,4 @@
-use Rattle.std.proofs.Common.{refl, rules}
+use Rattle.std.proofs.Common.{refl}
 use Rattle.matching.proofs.Rows.{clear-row}
 use Rattle.matching.proofs.search.clear_row.Goals as goal
 

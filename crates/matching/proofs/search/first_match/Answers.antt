@@ -1,4 +1,4 @@
-use Rattle.std.proofs.Common.{◌≡◌, ℕ, ◌<◌, ◌≤◌, true, false, map, length, IfSome, Some, None, Option, sym, ap, ◌∙◌, subst, arith, rules}
+use Rattle.std.proofs.Common.{◌≡◌, ℕ, ◌<◌, ◌≤◌, map, length, IfSome, Some, None, Option, sym, ap, ◌∙◌, subst, arith}
 use Rattle.matching.specs.declared.answer.Match.{Match}
 use Rattle.matching.specs.Matching.{IsMatch, match_from, MatchingRight, MatchingOne}
 use Rattle.matching.specs.Rows.{longest_end}

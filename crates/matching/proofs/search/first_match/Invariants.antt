@@ -1,4 +1,4 @@
-use Rattle.std.proofs.Common.{◌≡◌, ◌+◌, ◌-◌, length}
+use Rattle.std.proofs.Common.{◌≡◌, ◌+◌, ◌-◌}
 use Rattle.matching.specs.Matching.{match_from}
 use Rattle.matching.specs.Rows.{NoneReached}
 use Rattle.patterns.specs.View.{meaning}

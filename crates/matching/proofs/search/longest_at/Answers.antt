@@ -1,6 +1,5 @@
-use Rattle.std.proofs.Common.{◌≡◌, ◌+◌, ◌<◌, false, ◌⊎◌, List, [], ◌∷◌, ◌++◌, map, length, get_or, take, drop, sym, ap, ◌∙◌, subst, inl, inr, arith, rules}
+use Rattle.std.proofs.Common.{◌≡◌, ◌+◌, ◌<◌, false, ◌⊎◌, [], ◌∷◌, ◌++◌, map, length, take, drop, sym, ap, ◌∙◌, subst, inl, inr, arith}
 use Rattle.std.proofs.lemmas.List.{map_more, map-append, take-append-drop, take_all}
-use Rattle.patterns.specs.Items.{Item}
 use Rattle.matching.specs.Rows.{Spans, NoneReached}
 use Rattle.patterns.specs.View.{item_of}
 use Rattle.matching.proofs.Reached.{Row, row_start, span_start, row_step, row_stuck, span_none, nowhere, short_of_end, highest}

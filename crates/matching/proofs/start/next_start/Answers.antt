@@ -1,4 +1,4 @@
-use Rattle.std.proofs.Common.{◌≡◌, ◌<◌, ◌∷◌, map, length, drop, sym, ap, ◌∙◌, subst, arith, rules}
+use Rattle.std.proofs.Common.{◌≡◌, ◌<◌, ◌∷◌, map, length, drop, sym, ap, ◌∙◌, arith, rules}
 use Rattle.matching.specs.Rows.{longest_end}
 use Rattle.patterns.specs.View.{item_of}
 use Rattle.matching.proofs.Starts.{starred_hopeless, once_hopeless, first_mapped}

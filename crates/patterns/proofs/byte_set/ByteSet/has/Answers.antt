@@ -1,4 +1,4 @@
-use Rattle.std.proofs.Common.{◌≡◌, ℕ, ◌/◌, ◌%◌, ◌^◌, ◌<◌, eqb, get_or, sym, ap, ◌∙◌, rules}
+use Rattle.std.proofs.Common.{◌/◌, ◌%◌, ◌^◌, ◌<◌, eqb, get_or, sym, ap, ◌∙◌, rules}
 use Rattle.std.proofs.lemmas.Nat.{and_mask}
 use Rattle.patterns.specs.Bits.{bit_of}
 use Rattle.patterns.proofs.Tables.{has-those}

@@ -1,4 +1,4 @@
-use Rattle.std.proofs.Common.{◌≡◌, ◌+◌, ◌<◌, ◌≤◌, length, get_or, drop, Ok, Err, sym, ap, ◌∙◌, arith, rules}
+use Rattle.std.proofs.Common.{◌≡◌, ◌+◌, get_or, drop, Ok, sym, ap, ◌∙◌, arith, rules}
 use Rattle.std.proofs.lemmas.List.{take_rest, length-drop}
 use Rattle.std.proofs.lemmas.Result.{err_from_is_err_and}
 use Rattle.patterns.specs.Bits.{table_of}
@@ -7,21 +7,21 @@ use Rattle.patterns.specs.Reading.{◌>>=◌}
 use Rattle.patterns.proofs.Steps.{brackets_caret, brackets_others}
 use Rattle.patterns.proofs.pattern.brackets.read_brackets.Goals as goal
 
-pub returns-in_err-read : goal.returns-in_err-read
-returns-in_err-read c =
-    let p = err_from_is_err_and c.from-residual.result c.from-residual.ensures.1 in
+pub returns-in_err-read-in-94 : goal.returns-in_err-read-in-94
+returns-in_err-read-in-94 c =
+    let p = err_from_is_err_and c.from_residual.result c.from_residual.ensures.1 in
     let bs = c.args.rest.now in
     let first : get_or bs 0 0 ≡ 94 = search rules in
-    let e = simp take_rest at c.in_err-read.ensures.value in
+    let e = simp take_rest at c.in_err-read-in-94.ensures.value in
     rw (p.1, p.2) (record { value = ap (λ r. r >>= λ q. Ok (others q.0, q.1)) e ∙ sym (brackets_caret bs first); within = tt })
 
-pub returns-in_ok-read : goal.returns-in_ok-read
-returns-in_ok-read c =
+pub returns-in_ok-read-in-94 : goal.returns-in_ok-read-in-94
+returns-in_ok-read-in-94 c =
     let bs = c.args.rest.now in
-    let read = c.in_ok-read.read in
+    let read = c.in_ok-read-in-94.read in
     let first : get_or bs 0 0 ≡ 94 = search rules in
-    let e = simp take_rest at c.in_ok-read.ensures.value in
-    let w = simp (take_rest, length-drop) at c.in_ok-read.ensures.within in
+    let e = simp take_rest at c.in_ok-read-in-94.ensures.value in
+    let w = simp (take_rest, length-drop) at c.in_ok-read-in-94.ensures.within in
     record {
       value = ap (λ s. Ok (s, drop (1 + read.used) bs)) c.complement.ensures ∙ brackets_others bs first (table_of read.set.words) read.used e;
       within = (omega arith, omega arith);

@@ -1,8 +1,8 @@
-use Rattle.std.proofs.Common.{◌≡◌, ℕ, ◌+◌, ◌-◌, ◌<◌, ◌≤◌, true, false, not, ◌&&◌, eqb, length, get_or, drop, sym, ap, ◌∙◌, inl, inr, ⊎_elim, arith, rules}
+use Rattle.std.proofs.Common.{◌≡◌, ◌+◌, ◌-◌, ◌≤◌, true, false, not, ◌&&◌, eqb, length, get_or, drop, sym, ap, ◌∙◌, inl, inr, ⊎_elim, arith}
 use Rattle.std.proofs.lemmas.List.{take_rest, length-drop}
 use Rattle.std.proofs.lemmas.Result.{err_from_is_err_and}
 use Rattle.patterns.specs.Bits.{table_of}
-use Rattle.patterns.specs.Reading.{members_at, inside_at, member_at, closing}
+use Rattle.patterns.specs.Reading.{members_at, closing}
 use Rattle.patterns.proofs.Members.{closed, closes_false, refused, taken, step_end}
 use Rattle.patterns.proofs.pattern.brackets.read_inside.Goals as goal
 
@@ -24,7 +24,7 @@ returns-then-byte-eq93 c =
 
 pub returns-in_err-member : goal.returns-in_err-member
 returns-in_err-member c =
-    let p = err_from_is_err_and c.from-residual.result c.from-residual.ensures.1 in
+    let p = err_from_is_err_and c.from_residual.result c.from_residual.ensures.1 in
     let i = c.loop-at.invariant in
     let at = c.loop-at.at in
     let rest = c.args.rest.now in

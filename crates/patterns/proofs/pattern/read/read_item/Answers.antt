@@ -1,4 +1,4 @@
-use Rattle.std.proofs.Common.{◌≡◌, ◌+◌, ◌<◌, ◌≤◌, ◌⊎◌, length, get_or, drop, Ok, Err, sym, ap, ◌∙◌, inl, inr, ⊎_elim, arith, rules}
+use Rattle.std.proofs.Common.{◌≡◌, ◌<◌, ◌≤◌, ◌⊎◌, length, get_or, Ok, sym, ap, ◌∙◌, inl, inr, arith}
 use Rattle.patterns.specs.Bits.{table_of}
 use Rattle.patterns.specs.Reading.{◌>>=◌, star_at}
 use Rattle.patterns.proofs.Steps.{star_there, star_none}

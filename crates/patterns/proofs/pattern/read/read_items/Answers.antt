@@ -1,10 +1,10 @@
-use Rattle.std.proofs.Common.{◌≡◌, suc, ◌+◌, ◌-◌, ◌<◌, ◌≤◌, true, false, eqb, [], ◌∷◌, ◌++◌, map, length, get_or, take, drop, set, sym, refl, ap, ◌∙◌, arith, rules}
+use Rattle.std.proofs.Common.{◌≡◌, ◌+◌, ◌-◌, true, eqb, [], ◌∷◌, ◌++◌, map, take, drop, set, refl, ap, ◌∙◌, arith}
 use Rattle.std.proofs.lemmas.List.{take_rest, take_more_set, map_push, drop-drop, length-drop, length-set}
 use Rattle.std.proofs.lemmas.Result.{err_from_is_err_and}
 use Rattle.std.proofs.lemmas.Bool.{ne_eqb}
 use Rattle.patterns.specs.Reading.{items_at}
 use Rattle.patterns.specs.View.{item_of}
-use Rattle.patterns.proofs.Steps.{ahead, ahead_none, items-done, items-over, items-bad, items_on}
+use Rattle.patterns.proofs.Steps.{ahead_none, items-done, items-over, items-bad, items_on}
 use Rattle.patterns.proofs.pattern.read.read_items.Goals as goal
 
 pub loop-back-init : goal.loop-back-init
@@ -24,7 +24,7 @@ returns-then-count-eq-ITEMS_MAX c =
 
 pub returns-in_err-read : goal.returns-in_err-read
 returns-in_err-read c =
-    let p = err_from_is_err_and c.from-residual.result c.from-residual.ensures.1 in
+    let p = err_from_is_err_and c.from_residual.result c.from_residual.ensures.1 in
     let l = c.loop-back in
     rw (p.1, p.2)
     (items-bad c.args.front (eqb l.count 0) c.args.delimiter (64 - l.count) (map item_of (take l.count l.items)) (drop l.at c.args.part.now) c.args.part.now
