@@ -31,7 +31,7 @@ static BASES: [(&[u8], &[u8]); 19] = [
 
 #[test]
 fn reads_bases(rt: HostRuntime) -> Result<(), Fail> {
-    shows(rt, &BASES, plain())
+    shows(&rt, &BASES, plain())
 }
 
 // Offsets, which are summed by their signs.
@@ -55,7 +55,7 @@ static OFFSETS: [(&[u8], &[u8]); 15] = [
 
 #[test]
 fn reads_offsets(rt: HostRuntime) -> Result<(), Fail> {
-    shows(rt, &OFFSETS, plain())
+    shows(&rt, &OFFSETS, plain())
 }
 
 // Two addresses, and the comma by itself.
@@ -79,7 +79,7 @@ static PAIRS: [(&[u8], &[u8]); 15] = [
 
 #[test]
 fn reads_pairs(rt: HostRuntime) -> Result<(), Fail> {
-    shows(rt, &PAIRS, plain())
+    shows(&rt, &PAIRS, plain())
 }
 
 // Commands with nothing behind them.
@@ -99,7 +99,7 @@ static ALONE: [(&[u8], &[u8]); 11] = [
 
 #[test]
 fn reads_commands_alone(rt: HostRuntime) -> Result<(), Fail> {
-    shows(rt, &ALONE, plain())
+    shows(&rt, &ALONE, plain())
 }
 
 // `k` and `m`.
@@ -122,7 +122,7 @@ static OPERANDS: [(&[u8], &[u8]); 14] = [
 
 #[test]
 fn reads_marks_and_destinations(rt: HostRuntime) -> Result<(), Fail> {
-    shows(rt, &OPERANDS, plain())
+    shows(&rt, &OPERANDS, plain())
 }
 
 // `s`, with all kinds of delimiters.
@@ -155,7 +155,7 @@ static SUBSTITUTIONS: [(&[u8], &[u8]); 24] = [
 
 #[test]
 fn reads_substitutions(rt: HostRuntime) -> Result<(), Fail> {
-    shows(rt, &SUBSTITUTIONS, plain())
+    shows(&rt, &SUBSTITUTIONS, plain())
 }
 
 // `e` and `w` with a name.
@@ -176,7 +176,7 @@ static NAMES: [(&[u8], &[u8]); 9] = [
 
 #[test]
 fn reads_names(rt: HostRuntime) -> Result<(), Fail> {
-    shows(rt, &NAMES, plain())
+    shows(&rt, &NAMES, plain())
 }
 
 // `g` and `v`; what stands in the list does not matter.
@@ -196,7 +196,7 @@ static GLOBALS: [(&[u8], &[u8]); 11] = [
 
 #[test]
 fn reads_globals(rt: HostRuntime) -> Result<(), Fail> {
-    shows(rt, &GLOBALS, plain())
+    shows(&rt, &GLOBALS, plain())
 }
 
 // With a name remembered.
@@ -212,7 +212,7 @@ static REMEMBERED: [(&[u8], &[u8]); 7] = [
 
 #[test]
 fn reads_remembered_names(rt: HostRuntime) -> Result<(), Fail> {
-    shows(rt, &REMEMBERED, named())
+    shows(&rt, &REMEMBERED, named())
 }
 
 // In a list.
@@ -233,7 +233,7 @@ static LISTED: [(&[u8], &[u8]); 12] = [
 
 #[test]
 fn reads_lines_of_lists(rt: HostRuntime) -> Result<(), Fail> {
-    shows(rt, &LISTED, listed())
+    shows(&rt, &LISTED, listed())
 }
 
 // 166 offsets of the greatest number in 996 bytes, and 500 in 1,000.

@@ -5,23 +5,24 @@ use command::said::{
 };
 use reading::line::read_command;
 use reading::setting::Setting;
-use std::alloc::Global;
+use std::alloc::{AllocGlobal, Global};
+use std::process::Abort;
 use std::test::*;
 
 pub(crate) fn shows(
-    rt: HostRuntime,
+    rt: &(impl Abort + AllocGlobal),
     rows: &[(&[u8], &[u8])],
     setting: Setting,
 ) -> Result<(), Fail> {
     for (case, row) in rows.iter().enumerate() {
         let (line, wanted) = *row;
         let Ok(said) = read_command(line, setting) else {
-            assert_eq!((case, true), (case, false), "refused");
+            assert_eq!(rt; (case, true), (case, false), "refused");
             return Ok(());
         };
         let mut text = Vec::new(rt.alloc());
         show_said(rt.alloc(), &mut text, said)?;
-        assert_eq!((case, text.as_slice()), (case, wanted));
+        assert_eq!(rt; (case, text.as_slice()), (case, wanted));
     }
     Ok(())
 }
