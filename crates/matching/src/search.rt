@@ -1,6 +1,6 @@
 // The first start where a run of the line fits, and there the longest run.
 ghost use Rattle.std.specs.Prelude.{◌≡◌, ◌<◌, ◌≤◌, map, length, IfSome, IfNone, IfOk, OnOk};
-ghost use Rattle.matching.specs.Matching.{IsMatch, match_from, find_answer, «MatchingRight», «MatchingOne»};
+ghost use Rattle.matching.specs.Matching.{IsMatch, match_from, find_answer, MatchingRight, MatchingOne};
 ghost use Rattle.matching.specs.Rows.{NoneReached, longest_end};
 ghost use Rattle.patterns.specs.View.{item_of, meaning};
 
@@ -19,8 +19,8 @@ pub fn find(pattern: &Pattern, line: &[u8], from: usize) -> Result<Option<Match>
     ensures value { result ≡ find_answer (meaning pattern.now) line.now from }
     ensures matched { IfOk result (λ m. IsMatch (meaning pattern.now) line.now from m) }
     ensures within { IfOk result (λ m. IfSome m (λ x. (from ≤ x.start) × (x.start ≤ x.end) × (x.end ≤ length line.now))) }
-    ensures right { OnOk result («MatchingRight» (meaning pattern.now) line.now from) }
-    ensures one { OnOk result («MatchingOne» (meaning pattern.now) line.now from) }
+    ensures right { OnOk result (MatchingRight (meaning pattern.now) line.now from) }
+    ensures one { OnOk result (MatchingOne (meaning pattern.now) line.now from) }
 {
     if line.len() > LINE_MAX {
         return Err(MatchFault::LongLine);
@@ -43,8 +43,8 @@ fn first_match(pattern: &Pattern, line: &[u8], from: usize, row: &mut [bool]) ->
     ensures value { result ≡ match_from (meaning pattern.now) line.now from }
     ensures matched { IsMatch (meaning pattern.now) line.now from result }
     ensures within { IfSome result (λ x. (from ≤ x.start) × (x.start ≤ x.end) × (x.end ≤ length line.now)) }
-    ensures right { «MatchingRight» (meaning pattern.now) line.now from }
-    ensures one { «MatchingOne» (meaning pattern.now) line.now from }
+    ensures right { MatchingRight (meaning pattern.now) line.now from }
+    ensures one { MatchingOne (meaning pattern.now) line.now from }
 {
     let items = pattern.items();
     let back = pattern.has_end_anchor();
