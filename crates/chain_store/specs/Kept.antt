@@ -31,7 +31,7 @@ new_kept ns cap last some bounded is e =
     subst (λ (xs : List ℕ). Kept xs cap 0) (sym is) k
 
 module _ {ns : List ℕ} {cap count : ℕ} (kept : Kept ns cap count) where
-  -- the facts in the form that a struct with ghost fields asks for
+  -- the facts one after the other, without their names
   pub facts : (1 ≤ cap) × ((cap ≤ 4096) × ((length ns ≡ cap + 2) × ((count ≤ cap) × (Within ns × (Apart (chain ns) × ((slice_index (chain ns) (count + 1) ≡ 1) × Unit {0}))))))
   facts = (kept.some, (kept.bounded, (kept.long, (kept.room, (kept.within, (kept.apart, (kept.parted, tt)))))))
 

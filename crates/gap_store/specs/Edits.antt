@@ -1,16 +1,16 @@
 -- What a line put in or removed at the gap, or a tag that is set, makes of rows, bytes and lines.
-use Rattle.std.specs.Prelude.{◌≡◌, ℕ, zero, suc, ◌+◌, ◌-◌, ◌*◌, ◌<◌, ◌≤◌, true, false, cond, ◌⊎◌, List, [], ◌∷◌, ◌++◌, length, get_or, take, drop, set, slice_index_or, slice_set, refl}
-use Rattle.std.proofs.Common.{sym, ap, ◌∙◌, subst, inl, inr, ⊎_elim, arith, rules}
-use Rattle.std.proofs.lemmas.List.{places, same_lists, append_assoc, drop_all, take_at, drop_at, take-set-le, drop-set-lt, drop-set-add, take_more, take_more_set, set-append_right, length-take-le, length-drop, length-append, get_or-take, get_or-drop, get_or-set_same}
+use Rattle.std.specs.Prelude.{◌≡◌, ℕ, zero, suc, ◌+◌, ◌-◌, ◌*◌, ◌<◌, ◌≤◌, true, List, [], ◌∷◌, ◌++◌, length, get_or, take, drop, set, slice_index_or, slice_set, refl}
+use Rattle.std.proofs.Common.{sym, ap, ◌∙◌, subst, ⊎_elim, arith, rules}
+use Rattle.std.proofs.lemmas.List.{places, same_lists, append_assoc, drop_all, take_at, drop_at, take-set-le, drop-set-lt, drop-set-add, take_more, take_more_set, set-append_right, length-take-le, get_or-set_same}
 use Rattle.std.proofs.lemmas.Bool.{cases_eq, cases_lt, eq-eqb}
 use Rattle.std.proofs.lemmas.Bool.Decides.{nat_tests}
 use Rattle.lines.specs.Line.{Line, blank}
-use Rattle.lines.specs.Store.{Store, line_at, empty_store, inserted}
+use Rattle.lines.specs.Store.{line_at, inserted}
 use Rattle.gap_store.specs.declared.row.Row.{Row}
 use Rattle.gap_store.specs.Gaps.{held}
 use Rattle.gap_store.specs.Rows.{no_row, total, cut, laid, gap_meaning, overwritten, place}
 use Rattle.gap_store.specs.BackToBack.{total-append, length_cut, cut-append, laid-total, laid_front, laid_join, laid_one, laid_at, laid-set}
-use Rattle.gap_store.specs.Sides.{room, stop, front-total, sides, count}
+use Rattle.gap_store.specs.Sides.{room, stop, front-total, sides}
 
 -- a store that was just made: all of it is gap
 module _ (rows : List Row) (bytes : List ℕ) (n m : ℕ) (r : length rows ≡ n) (b : length bytes ≡ m) where

@@ -1,5 +1,5 @@
 -- Rows that say where the bytes of each line lie, and the lines that rows and bytes with a gap mean.
-use Rattle.std.specs.Prelude.{ℕ, ◌+◌, ◌-◌, Bool, true, false, cond, ◌&&◌, List, [], ◌∷◌, ◌++◌, length, take, drop, ◌==◌, nat_le}
+use Rattle.std.specs.Prelude.{ℕ, ◌+◌, ◌-◌, Bool, cond, ◌&&◌, List, [], ◌∷◌, ◌++◌, length, take, drop, ◌==◌, nat_le}
 use Rattle.lines.specs.Line.{Line}
 use Rattle.lines.specs.Store.{Store}
 use Rattle.gap_store.specs.declared.row.Row.{Row}

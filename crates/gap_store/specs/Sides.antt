@@ -1,11 +1,10 @@
 -- The lines in front of the gap and those behind it, the room between, and where a line lies.
-use Rattle.std.specs.Prelude.{◌≡◌, ℕ, ◌+◌, ◌-◌, ◌*◌, ◌<◌, ◌≤◌, true, cond, ◌⊎◌, List, [], ◌∷◌, ◌++◌, length, get_or, take, drop, slice_index_or, refl}
-use Rattle.std.proofs.Common.{sym, ap, ◌∙◌, subst, inl, inr, ⊎_elim, arith, rules}
-use Rattle.std.proofs.lemmas.List.{places, same_lists, length-take-le, length-drop, length-append, take-append-le}
+use Rattle.std.specs.Prelude.{◌≡◌, ℕ, ◌+◌, ◌-◌, ◌*◌, ◌<◌, ◌≤◌, true, List, ◌++◌, length, get_or, take, drop, slice_index_or}
+use Rattle.std.proofs.Common.{sym, ap, ◌∙◌, subst, ⊎_elim, arith, rules}
+use Rattle.std.proofs.lemmas.List.{places, same_lists, length-take-le, length-drop, take-append-le}
 use Rattle.std.proofs.lemmas.Bool.{cases_lt}
 use Rattle.std.proofs.lemmas.Bool.Decides.{nat_tests}
-use Rattle.lines.specs.Line.{Line, blank}
-use Rattle.lines.specs.Store.{Store, line_at, present}
+use Rattle.lines.specs.Store.{line_at}
 use Rattle.gap_store.specs.declared.row.Row.{Row}
 use Rattle.gap_store.specs.Gaps.{held}
 use Rattle.gap_store.specs.Rows.{no_row, total, cut, laid, gap_meaning, place}

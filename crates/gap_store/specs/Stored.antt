@@ -1,11 +1,11 @@
 -- The lemmas on rows and bytes, at a gap store: its count, its room, and the line whose row was found.
-use Rattle.std.specs.Prelude.{◌≡◌, ℕ, ◌+◌, ◌-◌, ◌*◌, ◌^◌, ◌<◌, ◌≤◌, true, false, List, ◌++◌, length, get_or, take, drop, vec_items, slice_index_or, slice_set, refl}
+use Rattle.std.specs.Prelude.{◌≡◌, ℕ, ◌+◌, ◌-◌, ◌*◌, ◌^◌, ◌<◌, ◌≤◌, true, List, ◌++◌, length, get_or, take, drop, vec_items, slice_index_or, slice_set}
 use Rattle.std.proofs.Common.{sym, ◌∙◌, arith}
 use Rattle.std.proofs.Math.Path.{ap, subst}
 use Rattle.std.proofs.lemmas.List.{get_or_read, length-take-le, length-drop}
 use Rattle.std.proofs.lemmas.Bool.Decides.{nat_tests}
 use Rattle.lines.specs.Line.{Line, LineFits}
-use Rattle.lines.specs.Store.{Store, line_at, present, inserted}
+use Rattle.lines.specs.Store.{Store, line_at, inserted}
 use Rattle.lines.proofs.Fitting.{Each, each_same, each-inserted, each_removed, each_set}
 use Rattle.gap_store.specs.declared.row.Row.{Row}
 use Rattle.gap_store.specs.declared.store.GapStore.{GapStore}

@@ -2,8 +2,8 @@ use Rattle.std.proofs.Common.{◌+◌, rules}
 use Rattle.gap_store.specs.BackToBack.{total_more, total-within, part-read, part_more, part_all}
 use Rattle.gap_store.proofs.laying.lay.Goals as goal
 
-pub overflow-add-at : goal.overflow-add-at
-overflow-add-at c =
+pub overflow_add-at : goal.overflow_add-at
+overflow_add-at c =
     let rs = c.args.rows.now in
     let k = c.loop-k.k in
     let more = total_more c.args.start rs k c.loop-k-test.true in

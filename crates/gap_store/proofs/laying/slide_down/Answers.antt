@@ -3,8 +3,8 @@ use Rattle.gap_store.specs.Rows.{total}
 use Rattle.gap_store.proofs.Sliding.{down_total, down_moved, slid_down}
 use Rattle.gap_store.proofs.laying.slide_down.Goals as goal
 
-pub overflow-add-offset : goal.overflow-add-offset
-overflow-add-offset c =
+pub overflow_add-offset : goal.overflow_add-offset
+overflow_add-offset c =
     let sum = down_total c.args.rows.now c.args.gap.start c.args.gap.end c.args.bytes.start c.args.bytes.end c.args.at (search rules) (search rules) (search rules) (search rules) c.requires.front in
     search rules
 

@@ -10,8 +10,8 @@ lay-requires c =
     let same = ap total moved in
     search rules
 
-pub overflow-sub-result-2 : goal.overflow-sub-result-2
-overflow-sub-result-2 c =
+pub overflow_sub-result-2 : goal.overflow_sub-result-2
+overflow_sub-result-2 c =
     let stop = up_stop c.args.rows.now c.args.gap.start c.args.gap.end c.args.bytes.start c.args.bytes.end c.args.end c.args.at (search rules) (search rules) (search rules) (search rules) (search rules) c.requires.front c.requires.behind in
     search rules
 

@@ -5,9 +5,9 @@ use Rattle.gap_store.specs.Meaning.{meaning_of}
 use Rattle.gap_store.specs.Stored.{count_of, room_of, stop_of, offset_within, moved_lines}
 use Rattle.gap_store.proofs.store.GapStore.bring.Goals as goal
 
-pub overflow-sub-byte_width : goal.overflow-sub-byte_width
+pub overflow_sub-byte_width : goal.overflow_sub-byte_width
 unfolding meaning_of
-overflow-sub-byte_width c = let room = room_of c.args.self.now in search rules
+overflow_sub-byte_width c = let room = room_of c.args.self.now in search rules
 
 pub slide_rows-offset-requires : goal.slide_rows-offset-requires
 unfolding meaning_of
@@ -26,13 +26,13 @@ slide_bytes-requires c =
     let within = offset_within s c.args.at in
     (omega arith, (stop, omega arith))
 
-pub overflow-add-self : goal.overflow-add-self
+pub overflow_add-self : goal.overflow_add-self
 unfolding meaning_of
-overflow-add-self c = let count = count_of c.args.self.now in search rules
+overflow_add-self c = let count = count_of c.args.self.now in search rules
 
-pub overflow-add-self-2 : goal.overflow-add-self-2
+pub overflow_add-self-2 : goal.overflow_add-self-2
 unfolding meaning_of
-overflow-add-self-2 c =
+overflow_add-self-2 c =
     let s = c.args.self.now in
     let room = room_of s in
     let stop = stop_of s in
@@ -50,28 +50,17 @@ invariant_of-self c =
     let o = c.slide_rows-offset.result + (s.byte_gap.end - s.byte_gap.start) in
     let rows = vec_items c.slide_rows-offset.new.rows in
     let bytes = vec_items c.slide_bytes.new.bytes in
-    let end : c.len-end.result ≡ length bytes = search rules in (
-      search rules,
-      (
-        search rules,
-        (
-          search rules,
-          (
-            search rules,
-            (
-              search rules,
-              (
-                slid.front,
-                (
-                  subst (λ (n : ℕ). laid o (drop m rows) n ≡ true) end slid.behind,
-                  (each_same _ _ (moved_lines s rows bytes c.args.at m c.slide_rows-offset.result o slid.same c.slide_bytes.ensures.same) s.each, tt),
-                ),
-              ),
-            ),
-          ),
-        ),
-      ),
-    )
+    let end : c.len-end.result ≡ length bytes = search rules in
+    record {
+      order = search rules;
+      last = search rules;
+      some = search rules;
+      bounded = search rules;
+      roomy = search rules;
+      front = slid.front;
+      behind = subst (λ (n : ℕ). laid o (drop m rows) n ≡ true) end slid.behind;
+      each = each_same _ _ (moved_lines s rows bytes c.args.at m c.slide_rows-offset.result o slid.same c.slide_bytes.ensures.same) s.each;
+    }
 
 pub returns : goal.returns
 unfolding meaning_of

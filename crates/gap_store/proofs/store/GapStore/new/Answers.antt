@@ -9,28 +9,17 @@ unfolding meaning_of
 invariant_of-result c =
     let rows = vec_items c.in-Ok.rows in
     let bytes = vec_items c.in-Ok-from_elem.bytes in
-    let n = c.args.capacity in (
-      search rules,
-      (
-        search rules,
-        (
-          search rules,
-          (
-            search rules,
-            (
-              search rules,
-              (
-                search rules,
-                (
-                  made_behind rows bytes n (n * 255) (search rules) (search rules),
-                  (each_same _ _ (made-lines rows bytes n (n * 255) (search rules) (search rules)) each_none, tt),
-                ),
-              ),
-            ),
-          ),
-        ),
-      ),
-    )
+    let n = c.args.capacity in
+    record {
+      order = search rules;
+      last = search rules;
+      some = search rules;
+      bounded = search rules;
+      roomy = search rules;
+      front = search rules;
+      behind = made_behind rows bytes n (n * 255) (search rules) (search rules);
+      each = each_same _ _ (made-lines rows bytes n (n * 255) (search rules) (search rules)) each_none;
+    }
 
 pub returns : goal.returns
 unfolding meaning_of

@@ -4,9 +4,9 @@ use Rattle.gap_store.specs.Meaning.{meaning_of}
 use Rattle.gap_store.specs.Stored.{count_of}
 use Rattle.gap_store.proofs.store.GapStore.place_of.Goals as goal
 
-pub overflow-add-result : goal.overflow-add-result
+pub overflow_add-result : goal.overflow_add-result
 unfolding meaning_of
-overflow-add-result c = let count = count_of c.args.self.now in search rules
+overflow_add-result c = let count = count_of c.args.self.now in search rules
 
 pub returns-else-n-self : goal.returns-else-n-self
 unfolding meaning_of

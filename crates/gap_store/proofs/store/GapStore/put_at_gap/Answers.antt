@@ -18,12 +18,12 @@ overwrite_vec-requires c =
     let text = c.args.text.now in
     put-room s s.row_gap.start refl (free s c.requires.free) text c.args.tag c.requires.fits (overwritten (vec_items s.bytes) s.byte_gap.start text) refl
 
-pub index-mut-requires : goal.index-mut-requires
-index-mut-requires c = let less = free c.args.self.now c.requires.free in search rules
+pub index_mut-requires : goal.index_mut-requires
+index_mut-requires c = let less = free c.args.self.now c.requires.free in search rules
 
-pub overflow-add-self-2 : goal.overflow-add-self-2
+pub overflow_add-self-2 : goal.overflow_add-self-2
 unfolding meaning_of
-overflow-add-self-2 c =
+overflow_add-self-2 c =
     let s = c.args.self.now in
     let text = c.args.text.now in
     let room = put-room s s.row_gap.start refl (free s c.requires.free) text c.args.tag c.requires.fits (overwritten (vec_items s.bytes) s.byte_gap.start text) refl in
@@ -37,28 +37,17 @@ invariant_of-self c =
     let bytes = vec_items c.overwrite_vec.new.bytes in
     let text = c.args.text.now in
     let less = free s c.requires.free in
-    let long = put-long s n refl (free s c.requires.free) text c.args.tag c.requires.fits bytes c.overwrite_vec.ensures in (
-      search rules,
-      (
-        search (rules, length-set),
-        (
-          search (rules, length-set),
-          (
-            search (rules, length-set),
-            (
-              search (rules, length-set),
-              (
-                put-laid s n refl (free s c.requires.free) text c.args.tag c.requires.fits bytes c.overwrite_vec.ensures,
-                (
-                  put_rest s n refl (free s c.requires.free) text c.args.tag c.requires.fits bytes c.overwrite_vec.ensures,
-                  (put_each s n refl (free s c.requires.free) text c.args.tag c.requires.fits bytes c.overwrite_vec.ensures, tt),
-                ),
-              ),
-            ),
-          ),
-        ),
-      ),
-    )
+    let long = put-long s n refl (free s c.requires.free) text c.args.tag c.requires.fits bytes c.overwrite_vec.ensures in
+    record {
+      order = search rules;
+      last = search (rules, length-set);
+      some = search (rules, length-set);
+      bounded = search (rules, length-set);
+      roomy = search (rules, length-set);
+      front = put-laid s n refl (free s c.requires.free) text c.args.tag c.requires.fits bytes c.overwrite_vec.ensures;
+      behind = put_rest s n refl (free s c.requires.free) text c.args.tag c.requires.fits bytes c.overwrite_vec.ensures;
+      each = put_each s n refl (free s c.requires.free) text c.args.tag c.requires.fits bytes c.overwrite_vec.ensures;
+    }
 
 pub returns : goal.returns
 unfolding meaning_of

@@ -7,28 +7,17 @@ pub invariant_of-self : goal.invariant_of-self
 invariant_of-self c =
     let s = c.args.self.now in
     let n = s.row_gap.start in
-    let order = s.order in (
-      search rules,
-      (
-        s.last,
-        (
-          s.some,
-          (
-            s.bounded,
-            (
-              s.roomy,
-              (
-                remove-laid s n refl c.requires c.index-row.result.now c.index-row.ensures,
-                (
-                  s.behind,
-                  (remove_each s n refl c.requires c.index-row.result.now c.index-row.ensures, tt),
-                ),
-              ),
-            ),
-          ),
-        ),
-      ),
-    )
+    let order = s.order in
+    record {
+      order = search rules;
+      last = s.last;
+      some = s.some;
+      bounded = s.bounded;
+      roomy = s.roomy;
+      front = remove-laid s n refl c.requires c.index-row.result.now c.index-row.ensures;
+      behind = s.behind;
+      each = remove_each s n refl c.requires c.index-row.result.now c.index-row.ensures;
+    }
 
 pub returns : goal.returns
 unfolding meaning_of

@@ -13,28 +13,17 @@ invariant_of-self c =
     let at = c.place_of-i.ensures in
     let r = c.index-row.result.now in
     let one : 1 ≤ c.args.n = search rules in
-    let le : c.args.n ≤ s.row_gap.start + (length (vec_items s.rows) - s.row_gap.end) = search rules in (
-      s.order,
-      (
-        search (rules, length-set),
-        (
-          search (rules, length-set),
-          (
-            search (rules, length-set),
-            (
-              search (rules, length-set),
-              (
-                retag_front s c.args.n i one le at.value at.within r c.index-row.ensures c.args.tag,
-                (
-                  retag_behind s c.args.n i one le at.value at.within r c.index-row.ensures c.args.tag,
-                  (retag_each s c.args.n i one le at.value at.within r c.index-row.ensures c.args.tag (search rules), tt),
-                ),
-              ),
-            ),
-          ),
-        ),
-      ),
-    )
+    let le : c.args.n ≤ s.row_gap.start + (length (vec_items s.rows) - s.row_gap.end) = search rules in
+    record {
+      order = s.order;
+      last = search (rules, length-set);
+      some = search (rules, length-set);
+      bounded = search (rules, length-set);
+      roomy = search (rules, length-set);
+      front = retag_front s c.args.n i one le at.value at.within r c.index-row.ensures c.args.tag;
+      behind = retag_behind s c.args.n i one le at.value at.within r c.index-row.ensures c.args.tag;
+      each = retag_each s c.args.n i one le at.value at.within r c.index-row.ensures c.args.tag (search rules);
+    }
 
 pub returns : goal.returns
 unfolding meaning_of
