@@ -17,11 +17,11 @@ use tags::chosen::set_chosen;
 // Chooses the lines of the range that the chooser holds of, and no others; answers how many that are. No range stands for the
 // lines of an empty text.
 pub fn choose<T: LineStore>(text: &mut T, range: Option<Range>, chooser: Chooser<'_>) -> usize
-    requires { RangesOver (length (meaning text.old).lines) range }
-    ensures lines { seen_lines (meaning text.new) ≡ choice (wanted (chooser_view chooser.entry) (span_or range)) 1 (seen_lines (meaning text.old)) }
-    ensures count { result ≡ chosen_in (seen_lines (meaning text.new)) }
-    ensures capacity { (meaning text.new).capacity ≡ (meaning text.old).capacity }
-    ensures size { length (meaning text.new).lines ≡ length (meaning text.old).lines }
+    requires { RangesOver (length (T.LineStore.meaning text.old).lines) range }
+    ensures lines { seen_lines (T.LineStore.meaning text.new) ≡ choice (wanted (chooser_view chooser.entry) (span_or range)) 1 (seen_lines (T.LineStore.meaning text.old)) }
+    ensures count { result ≡ chosen_in (seen_lines (T.LineStore.meaning text.new)) }
+    ensures capacity { (T.LineStore.meaning text.new).capacity ≡ (T.LineStore.meaning text.old).capacity }
+    ensures size { length (T.LineStore.meaning text.new).lines ≡ length (T.LineStore.meaning text.old).lines }
 {
     let sought = sought_by(chooser);
     let reading = Pattern::read(sought.delimiter, sought.part);
@@ -36,10 +36,10 @@ fn choose_lines<T: LineStore>(
     reading: &Reading,
 ) -> usize
     requires { ReadFor reading.now chooser }
-    ensures lines { seen_lines (meaning text.new) ≡ choice (wanted (chooser_view chooser.entry) (span_or range)) 1 (seen_lines (meaning text.old)) }
-    ensures count { result ≡ chosen_in (seen_lines (meaning text.new)) }
-    ensures capacity { (meaning text.new).capacity ≡ (meaning text.old).capacity }
-    ensures size { length (meaning text.new).lines ≡ length (meaning text.old).lines }
+    ensures lines { seen_lines (T.LineStore.meaning text.new) ≡ choice (wanted (chooser_view chooser.entry) (span_or range)) 1 (seen_lines (T.LineStore.meaning text.old)) }
+    ensures count { result ≡ chosen_in (seen_lines (T.LineStore.meaning text.new)) }
+    ensures capacity { (T.LineStore.meaning text.new).capacity ≡ (T.LineStore.meaning text.old).capacity }
+    ensures size { length (T.LineStore.meaning text.new).lines ≡ length (T.LineStore.meaning text.old).lines }
 {
     let mut chosen = 0;
     for i in 0..text.count() {
@@ -58,12 +58,12 @@ fn choose_line<T: LineStore>(
     chooser: Chooser<'_>,
     reading: &Reading,
 ) -> bool
-    requires present { (1 ≤ n) × (n ≤ length (meaning text.old).lines) }
+    requires present { (1 ≤ n) × (n ≤ length (T.LineStore.meaning text.old).lines) }
     requires reading { ReadFor reading.now chooser }
-    ensures value { result ≡ wanted (chooser_view chooser.entry) (span_or range) n (line_at (meaning text.old) n).text }
-    ensures lines { seen_lines (meaning text.new) ≡ on_line n (choosing result) (seen_lines (meaning text.old)) }
-    ensures capacity { (meaning text.new).capacity ≡ (meaning text.old).capacity }
-    ensures size { length (meaning text.new).lines ≡ length (meaning text.old).lines }
+    ensures value { result ≡ wanted (chooser_view chooser.entry) (span_or range) n (line_at (T.LineStore.meaning text.old) n).text }
+    ensures lines { seen_lines (T.LineStore.meaning text.new) ≡ on_line n (choosing result) (seen_lines (T.LineStore.meaning text.old)) }
+    ensures capacity { (T.LineStore.meaning text.new).capacity ≡ (T.LineStore.meaning text.old).capacity }
+    ensures size { length (T.LineStore.meaning text.new).lines ≡ length (T.LineStore.meaning text.old).lines }
 {
     let wanted = is_wanted(text, n, range, chooser, reading);
     set_chosen(text, n, wanted);

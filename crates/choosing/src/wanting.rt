@@ -35,9 +35,9 @@ pub fn is_wanted<T: LineStore>(
     chooser: Chooser<'_>,
     reading: &Reading,
 ) -> bool
-    requires present { (1 ≤ n) × (n ≤ length (meaning text.now).lines) }
+    requires present { (1 ≤ n) × (n ≤ length (T.LineStore.meaning text.now).lines) }
     requires reading { ReadFor reading.now chooser }
-    ensures { result ≡ wanted (chooser_view chooser.entry) (span_or range) n (line_at (meaning text.now) n).text }
+    ensures { result ≡ wanted (chooser_view chooser.entry) (span_or range) n (line_at (T.LineStore.meaning text.now) n).text }
 {
     if !covers(range, n) {
         return false;
@@ -57,9 +57,9 @@ fn covers(range: Option<Range>, n: usize) -> bool
 
 // Whether the chooser holds of line `n`.
 fn chooser_holds<T: LineStore>(text: &T, n: usize, chooser: Chooser<'_>, reading: &Reading) -> bool
-    requires present { (1 ≤ n) × (n ≤ length (meaning text.now).lines) }
+    requires present { (1 ≤ n) × (n ≤ length (T.LineStore.meaning text.now).lines) }
     requires reading { ReadFor reading.now chooser }
-    ensures { result ≡ holds (chooser_view chooser.entry) (line_at (meaning text.now) n).text }
+    ensures { result ≡ holds (chooser_view chooser.entry) (line_at (T.LineStore.meaning text.now) n).text }
 {
     let found = has_match(text, n, reading);
     match chooser {
@@ -70,8 +70,8 @@ fn chooser_holds<T: LineStore>(text: &T, n: usize, chooser: Chooser<'_>, reading
 
 // Whether line `n` has a match.
 fn has_match<T: LineStore>(text: &T, n: usize, reading: &Reading) -> bool
-    requires { (1 ≤ n) × (n ≤ length (meaning text.now).lines) }
-    ensures { result ≡ is_there (found_in (line_at (meaning text.now) n).text (viewed reading.now) 0) }
+    requires { (1 ≤ n) × (n ≤ length (T.LineStore.meaning text.now).lines) }
+    ensures { result ≡ is_there (found_in (line_at (T.LineStore.meaning text.now) n).text (viewed reading.now) 0) }
 {
     match reading {
         Ok(pattern) => line_matches(text, n, pattern),

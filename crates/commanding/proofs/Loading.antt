@@ -15,8 +15,10 @@ use Rattle.filing.specs.Contents.{file_in}
 use Rattle.printing.specs.Sheets.{written}
 use Rattle.rules.specs.Checks.{◌>>◌, check, or_fault}
 use Rattle.rules.specs.Commands.{Outcome, reading, accepted, or_refusal, loaded, edited}
-use Rattle.rules.specs.Doing.{all_fit}
+use Rattle.lines.specs.Line.{all_fit}
 use Rattle.rules.specs.Effects.{name_of}
+use Rattle.rules.specs.Doing.{short}
+use Rattle.filing.proofs.Splitting.{short_split}
 use Rattle.rules.specs.Files.{contents_of, contents_by, split}
 use Rattle.rules.specs.Lines.{Line, page, created}
 use Rattle.rules.specs.Printing.{numbered}
@@ -102,14 +104,16 @@ abbrev size_in : Option (List ℕ) → List ℕ
 size_in o = elim o [ None ↦ [] | Some c ↦ numbered (length c) ]
 
 by_contents : (room : ℕ) (w : World) (f : List ℕ) (o : Option (List ℕ))
-    → or_refusal w (or_fault FileNotFound o >>= λ c. checked_in (leb (length (split c)) w.capacity) (all_fit (split c)) (leb (length (numbered (length c))) room) (loaded w f c)) (λ u. accepted reading u (size_in o))
+    → or_refusal w (or_fault FileNotFound o >>= λ c. checked_in (leb (length (split c)) w.capacity) (short (split c)) (leb (length (numbered (length c))) room) (loaded w f c)) (λ u. accepted reading u (size_in o))
     ≡ read_as room w f o
 by_contents room w f None = refl
-by_contents room w f (Some c) = by_checks w (loaded w f c) (leb (length (split c)) w.capacity) (all_fit (split c)) (leb (length (numbered (length c))) room) (length c)
+by_contents room w f (Some c) =
+    ap (λ (b : Bool). or_refusal w (checked_in (leb (length (split c)) w.capacity) b (leb (length (numbered (length c))) room) (loaded w f c)) (λ u. accepted reading u (numbered (length c)))) (short_split c)
+    ∙ by_checks w (loaded w f c) (leb (length (split c)) w.capacity) (all_fit (split c)) (leb (length (numbered (length c))) room) (length c)
 
 -- saved text and a known name
 abbrev edited_by : ℕ → World → Read (Unit {0}) → Read (List ℕ) → Outcome
-edited_by room w saved name = or_refusal w (saved >> (name >>= λ f. or_fault FileNotFound (contents_of w.shelf f) >>= λ c. checked_in (leb (length (split c)) w.capacity) (all_fit (split c)) (leb (length (numbered (length c))) room) (loaded w f c)))
+edited_by room w saved name = or_refusal w (saved >> (name >>= λ f. or_fault FileNotFound (contents_of w.shelf f) >>= λ c. checked_in (leb (length (split c)) w.capacity) (short (split c)) (leb (length (numbered (length c))) room) (loaded w f c)))
     (λ u. accepted reading u (elim name [ Err x ↦ [] | Ok f ↦ size_in (contents_of w.shelf f) ]))
 
 pub edited-named : (room : ℕ) (w : World) (n : FileName) (f : List ℕ) → check (w.warned || not w.unsaved) Unsaved ≡ Ok tt → name_of w n ≡ Ok f

@@ -4,7 +4,7 @@ use Rattle.command.specs.declared.fault.Fault.TheVariants.{FileNotFound, TooMany
 use Rattle.reading.specs.Read.{Read}
 use Rattle.rules.specs.Checks.{◌>>◌, check, or_fault}
 use Rattle.rules.specs.Commands.{Outcome, reading, accepted, or_refusal, loaded}
-use Rattle.rules.specs.Doing.{all_fit}
+use Rattle.lines.specs.Line.{all_fit}
 use Rattle.rules.specs.Files.{contents_of, split}
 use Rattle.rules.specs.Printing.{numbered}
 use Rattle.rules.specs.World.{World}

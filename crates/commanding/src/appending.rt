@@ -32,9 +32,9 @@ pub fn append<T: LineStore>(
     text: &T,
     addresses: Addresses<'_>,
 ) -> Result<(), Fault>
-    requires { session.old.current ≤ length (meaning text.now).lines }
-    ensures value { (k : Store) (h : Shelf) → fault_of result ≡ (appended (world_of session.old (meaning text.now) k h) (addresses_view addresses.entry)).fault }
-    ensures world { (k : Store) (h : Shelf) → world_of session.new (meaning text.now) k h ≡ (appended (world_of session.old (meaning text.now) k h) (addresses_view addresses.entry)).world }
+    requires { session.old.current ≤ length (T.LineStore.meaning text.now).lines }
+    ensures value { (k : Store) (h : Shelf) → fault_of result ≡ (appended (world_of session.old (T.LineStore.meaning text.now) k h) (addresses_view addresses.entry)).fault }
+    ensures world { (k : Store) (h : Shelf) → world_of session.new (T.LineStore.meaning text.now) k h ≡ (appended (world_of session.old (T.LineStore.meaning text.now) k h) (addresses_view addresses.entry)).world }
 {
     let before = session.current;
     let n = match resolve_line(text, before, addresses, before, true) {
@@ -98,12 +98,12 @@ fn keep_before<T: LineStore, K: LineStore>(
 
 // Puts a line behind the current one, and makes it current.
 fn put_behind_current<T: LineStore>(session: &mut Session, text: &mut T, line: &[u8])
-    requires within { session.old.current ≤ length (meaning text.old).lines }
-    requires room { length (meaning text.old).lines < (meaning text.old).capacity }
+    requires within { session.old.current ≤ length (T.LineStore.meaning text.old).lines }
+    requires room { length (T.LineStore.meaning text.old).lines < (T.LineStore.meaning text.old).capacity }
     requires short { length line.now ≤ 255 }
     requires unbroken { holds_break line.now ≡ false }
-    ensures world { (k : Store) (h : Shelf) → world_of session.new (meaning text.new) k h ≡ with_text (typed_in (page (seen_lines (meaning text.old)) session.old.current) line.now) (world_of session.old (meaning text.old) k h) }
-    ensures text { (meaning text.new).capacity ≡ (meaning text.old).capacity }
+    ensures world { (k : Store) (h : Shelf) → world_of session.new (T.LineStore.meaning text.new) k h ≡ with_text (typed_in (page (seen_lines (T.LineStore.meaning text.old)) session.old.current) line.now) (world_of session.old (T.LineStore.meaning text.old) k h) }
+    ensures text { (T.LineStore.meaning text.new).capacity ≡ (T.LineStore.meaning text.old).capacity }
 {
     put_line(text, session.current, line, PLAIN);
     session.current += 1;

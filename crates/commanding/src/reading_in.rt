@@ -5,7 +5,7 @@ ghost use Rattle.shelf.specs.Shelf.{Shelf, present};
 ghost use Rattle.command.specs.View.{name_view};
 ghost use Rattle.filing.specs.Contents.{file_in};
 ghost use Rattle.rules.specs.Commands.{loaded, edited};
-ghost use Rattle.rules.specs.Doing.{all_fit};
+ghost use Rattle.lines.specs.Line.{all_fit};
 ghost use Rattle.rules.specs.Files.{split};
 ghost use Rattle.state.specs.Worlds.{world_of, Seated};
 ghost use Rattle.commanding.specs.Editing.{readable, read_named};
@@ -94,8 +94,8 @@ fn check_file<S: Shelf>(
     capacity: usize,
     room: usize,
 ) -> Result<usize, Fault>
-    requires { present (meaning shelf.now) file ≡ true }
-    ensures { result ≡ readable capacity room (file_in (meaning shelf.now) file) }
+    requires { present (S.Shelf.meaning shelf.now) file ≡ true }
+    ensures { result ≡ readable capacity room (file_in (S.Shelf.meaning shelf.now) file) }
 {
     let tally = tally_file(shelf, file);
     if tally.lines > capacity {

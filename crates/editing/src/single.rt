@@ -9,28 +9,28 @@ use lines::store::LineStore;
 
 // Takes line `n` away.
 pub fn take_line<T: LineStore>(text: &mut T, n: usize)
-    requires { (1 ≤ n) × (n ≤ length (meaning text.old).lines) }
-    ensures { meaning text.new ≡ without (meaning text.old) n n }
+    requires { (1 ≤ n) × (n ≤ length (T.LineStore.meaning text.old).lines) }
+    ensures { T.LineStore.meaning text.new ≡ without (T.LineStore.meaning text.old) n n }
 {
     let _ = text.remove(n);
 }
 
 // Puts a line behind line `behind`, or in front of all where that is 0.
 pub fn put_line<T: LineStore>(text: &mut T, behind: usize, bytes: &[u8], tag: Tag)
-    requires place { behind ≤ length (meaning text.old).lines }
-    requires room { length (meaning text.old).lines < (meaning text.old).capacity }
+    requires place { behind ≤ length (T.LineStore.meaning text.old).lines }
+    requires room { length (T.LineStore.meaning text.old).lines < (T.LineStore.meaning text.old).capacity }
     requires short { length bytes.now ≤ 255 }
     requires unbroken { holds_break bytes.now ≡ false }
     requires defined { tag < 2 ^ 27 }
-    ensures { meaning text.exit.now ≡ with_line (meaning text.entry.now) behind (record { text = bytes.now; tag = tag }) }
+    ensures { T.LineStore.meaning text.exit.now ≡ with_line (T.LineStore.meaning text.entry.now) behind (record { text = bytes.now; tag = tag }) }
 {
     let _ = text.put(behind, bytes, tag);
 }
 
 // The tag of line `n`.
 pub(crate) fn tag_of<T: LineStore>(text: &T, n: usize) -> Tag
-    requires { (1 ≤ n) × (n ≤ length (meaning text.now).lines) }
-    ensures value { result ≡ (line_at (meaning text.now) n).tag }
+    requires { (1 ≤ n) × (n ≤ length (T.LineStore.meaning text.now).lines) }
+    ensures value { result ≡ (line_at (T.LineStore.meaning text.now) n).tag }
     ensures defined { result < 2 ^ 27 }
 {
     text.tag(n).unwrap()
@@ -38,11 +38,11 @@ pub(crate) fn tag_of<T: LineStore>(text: &T, n: usize) -> Tag
 
 // Copies the text of line `n` to the start of `buffer`, and answers its length.
 pub(crate) fn read_line<T: LineStore>(text: &T, n: usize, buffer: &mut [u8]) -> usize
-    requires here { (1 ≤ n) × (n ≤ length (meaning text.now).lines) }
+    requires here { (1 ≤ n) × (n ≤ length (T.LineStore.meaning text.now).lines) }
     requires space { 255 ≤ length buffer.old }
-    ensures size { result ≡ length (line_at (meaning text.now) n).text }
+    ensures size { result ≡ length (line_at (T.LineStore.meaning text.now) n).text }
     ensures short { result ≤ 255 }
-    ensures bytes { take result buffer.new ≡ (line_at (meaning text.now) n).text }
+    ensures bytes { take result buffer.new ≡ (line_at (T.LineStore.meaning text.now) n).text }
 {
     text.copy(n, buffer).unwrap()
 }
@@ -72,9 +72,9 @@ pub(crate) fn copy_with_tag<T: LineStore, K: LineStore>(from: &T, n: usize, to: 
 
 // Takes line `n` out, and puts it behind line `behind` of those that are left.
 pub(crate) fn shift_line<T: LineStore>(text: &mut T, n: usize, behind: usize)
-    requires here { (1 ≤ n) × (n ≤ length (meaning text.old).lines) }
-    requires place { behind < length (meaning text.old).lines }
-    ensures { meaning text.new ≡ with_line (without (meaning text.old) n n) behind (line_at (meaning text.old) n) }
+    requires here { (1 ≤ n) × (n ≤ length (T.LineStore.meaning text.old).lines) }
+    requires place { behind < length (T.LineStore.meaning text.old).lines }
+    ensures { T.LineStore.meaning text.new ≡ with_line (without (T.LineStore.meaning text.old) n n) behind (line_at (T.LineStore.meaning text.old) n) }
 {
     let mut buffer = [0u8; LINE_MAX];
     let size = read_line(text, n, &mut buffer);

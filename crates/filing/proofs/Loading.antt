@@ -6,7 +6,7 @@ use Rattle.std.proofs.lemmas.Bool.{ltb-true}
 use Rattle.lines.specs.Line as stored
 use Rattle.lines.specs.Store.{Store, inserted}
 use Rattle.shelf.specs.Shelf.{File, Shelf, Sound, no_file, present}
-use Rattle.rules.specs.Doing.{all_fit}
+use Rattle.lines.specs.Line.{all_fit}
 use Rattle.rules.specs.Files.{split}
 use Rattle.rules.specs.Lines.{Line, seen, seen_lines, created}
 use Rattle.editing.specs.Shapes.{with_line}

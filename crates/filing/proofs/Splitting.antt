@@ -1,9 +1,9 @@
 -- The lines of bytes: the first, those behind it, and how many there are.
-use Rattle.std.proofs.Common.{◌≡◌, ℕ, zero, suc, ◌+◌, ◌-◌, ◌<◌, ◌≤◌, Bool, true, false, cond, not, ◌&&◌, eqb, ltb, leb, ◌⊎◌, List, [], ◌∷◌, ◌++◌, length, take, drop, sym, refl, ap, ◌∙◌, ⊎_elim, arith}
+use Rattle.std.proofs.Common.{◌≡◌, ℕ, zero, suc, ◌+◌, ◌-◌, ◌<◌, ◌≤◌, Bool, true, false, cond, not, ◌&&◌, eqb, ltb, leb, ◌⊎◌, List, [], ◌∷◌, ◌++◌, length, take, drop, sym, refl, ap, ◌∙◌, subst, ⊎_elim, arith}
 use Rattle.std.proofs.lemmas.List.{append-nil, append_assoc, length_push, length-take-le}
 use Rattle.std.proofs.lemmas.Bool.{cases_Bool, or_parts, or_from, and_parts, not-true, leb-true, lt-ltb}
-use Rattle.lines.specs.Line.{holds_break, fitting}
-use Rattle.rules.specs.Doing.{all_fit}
+use Rattle.lines.specs.Line.{holds_break, fitting, all_fit}
+use Rattle.rules.specs.Doing.{short}
 use Rattle.rules.specs.Files.{on_first, split}
 use Rattle.filing.specs.declared.count.Count.{Count}
 use Rattle.filing.specs.Counting.{byte_counted, counted, uncounted, lines_of, fits_of, line_length, first_line}
@@ -147,6 +147,37 @@ and_assoc false b c = refl
 
 fitting-unbroken : (t : List ℕ) → holds_break t ≡ false → fitting t ≡ leb (length t) 255
 fitting-unbroken t h = ap (λ (b : Bool). leb (length t) 255 && not b) h ∙ and_true (leb (length t) 255)
+
+-- the lines of bytes have no break in them, so they fit where none is too long
+
+Whole : List (List ℕ) → Type 0
+Whole [] = Unit {0}
+Whole (t ∷ ts) = (holds_break t ≡ false) × Whole ts
+
+whole_first : (b : ℕ) (ts : List (List ℕ)) → eqb b 10 ≡ false → Whole ts → Whole (on_first b ts)
+unfolding Whole
+whole_first b [] e w = (or_from (eqb b 10) false e refl, tt)
+whole_first b (t ∷ ts) e w = (or_from (eqb b 10) (holds_break t) e w.0, w.1)
+
+whole_split : (bs : List ℕ) → Whole (split bs)
+unfolding Whole
+whole_split [] = tt
+whole_split (b ∷ bs) = whole_behind b bs (whole_split bs)
+  where
+    whole_behind : (b : ℕ) (bs : List ℕ) → Whole (split bs) → Whole (split (b ∷ bs))
+    whole_behind b bs w = ⊎_elim
+        (λ (e : eqb b 10 ≡ true). subst Whole (sym (split_break b bs e)) (refl, w))
+        (λ (e : eqb b 10 ≡ false). subst Whole (sym (split_other b bs e)) (whole_first b (split bs) e w))
+        (cases_Bool (eqb b 10))
+
+short_whole : (ts : List (List ℕ)) → Whole ts → short ts ≡ all_fit ts
+unfolding Whole
+short_whole [] w = refl
+short_whole (t ∷ ts) w =
+    ap (λ (b : Bool). b && short ts) (sym (fitting-unbroken t w.0)) ∙ ap (λ (b : Bool). fitting t && b) (short_whole ts w.1)
+
+pub short_split : (bs : List ℕ) → short (split bs) ≡ all_fit (split bs)
+short_split bs = short_whole (split bs) (whole_split bs)
 
 -- what is said of a count, where these are the lines
 abbrev Tallies : Count → Count → List (List ℕ) → Type 0

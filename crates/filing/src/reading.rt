@@ -1,7 +1,7 @@
 // The lines of a file: how many there are, and how they come into a text.
 ghost use Rattle.std.specs.Prelude.{◌≡◌, ◌+◌, ◌-◌, ◌<◌, ◌≤◌, true, [], ◌∷◌, ◌++◌, map, length, take, drop};
 ghost use Rattle.shelf.specs.Shelf.{present};
-ghost use Rattle.rules.specs.Doing.{all_fit};
+ghost use Rattle.lines.specs.Line.{all_fit};
 ghost use Rattle.rules.specs.Files.{split};
 ghost use Rattle.rules.specs.Lines.{seen_lines, created};
 ghost use Rattle.filing.specs.Contents.{file_in};
@@ -29,9 +29,9 @@ pub struct Tally {
 
 // How many lines a file holds, and whether each may be a line of a text.
 pub fn tally_file<S: Shelf>(shelf: &S, file: usize) -> Tally
-    requires { present (meaning shelf.now) file ≡ true }
-    ensures lines { result.lines ≡ length (split (file_in (meaning shelf.now) file)) }
-    ensures fits { result.fits ≡ all_fit (split (file_in (meaning shelf.now) file)) }
+    requires { present (S.Shelf.meaning shelf.now) file ≡ true }
+    ensures lines { result.lines ≡ length (split (file_in (S.Shelf.meaning shelf.now) file)) }
+    ensures fits { result.fits ≡ all_fit (split (file_in (S.Shelf.meaning shelf.now) file)) }
 {
     let count = count_file(shelf, file);
     Tally {
@@ -42,8 +42,8 @@ pub fn tally_file<S: Shelf>(shelf: &S, file: usize) -> Tally
 
 // The count of all bytes of a file.
 fn count_file<S: Shelf>(shelf: &S, file: usize) -> Count
-    requires { present (meaning shelf.now) file ≡ true }
-    ensures value { result ≡ counted uncounted (file_in (meaning shelf.now) file) }
+    requires { present (S.Shelf.meaning shelf.now) file ≡ true }
+    ensures value { result ≡ counted uncounted (file_in (S.Shelf.meaning shelf.now) file) }
     ensures bounded { result.ended ≤ 1048576 }
 {
     let size = shelf.size(file).unwrap();
@@ -62,10 +62,10 @@ fn count_file<S: Shelf>(shelf: &S, file: usize) -> Count
 
 // The count with the bytes of a file from a place on, as many as are read at once.
 fn count_chunk<S: Shelf>(shelf: &S, file: usize, place: usize, count: Count) -> Count
-    requires present { present (meaning shelf.now) file ≡ true }
+    requires present { present (S.Shelf.meaning shelf.now) file ≡ true }
     requires ended { count.ended ≤ 1048576 }
     requires pending { count.pending ≤ 1048576 }
-    ensures { result ≡ counted count (take 256 (drop place (file_in (meaning shelf.now) file))) }
+    ensures { result ≡ counted count (take 256 (drop place (file_in (S.Shelf.meaning shelf.now) file))) }
 {
     let mut buffer = [0u8; CHUNK];
     let size = read_chunk(shelf, file, place, &mut buffer);
@@ -74,11 +74,11 @@ fn count_chunk<S: Shelf>(shelf: &S, file: usize, place: usize, count: Count) -> 
 
 // Copies the bytes of a file from a place on, as many as are read at once, to the start of `buffer`, and answers their number.
 fn read_chunk<S: Shelf>(shelf: &S, file: usize, place: usize, buffer: &mut [u8]) -> usize
-    requires present { present (meaning shelf.now) file ≡ true }
+    requires present { present (S.Shelf.meaning shelf.now) file ≡ true }
     requires space { length buffer.old ≡ 256 }
-    ensures size { result ≡ length (take 256 (drop place (file_in (meaning shelf.now) file))) }
+    ensures size { result ≡ length (take 256 (drop place (file_in (S.Shelf.meaning shelf.now) file))) }
     ensures short { result ≤ 256 }
-    ensures bytes { take result buffer.new ≡ take 256 (drop place (file_in (meaning shelf.now) file)) }
+    ensures bytes { take result buffer.new ≡ take 256 (drop place (file_in (S.Shelf.meaning shelf.now) file)) }
 {
     shelf.copy(file, place, buffer).unwrap()
 }
@@ -128,12 +128,12 @@ fn load_line<T: LineStore, S: Shelf>(shelf: &S, file: usize, place: usize, text:
 
 // Copies the line that begins at a place of a file to the start of `buffer`, and answers its length.
 fn read_line<S: Shelf>(shelf: &S, file: usize, place: usize, buffer: &mut [u8]) -> usize
-    requires present { present (meaning shelf.now) file ≡ true }
+    requires present { present (S.Shelf.meaning shelf.now) file ≡ true }
     requires space { length buffer.old ≡ 256 }
-    requires short { line_length (drop place (file_in (meaning shelf.now) file)) ≤ 255 }
-    ensures size { result ≡ line_length (drop place (file_in (meaning shelf.now) file)) }
+    requires short { line_length (drop place (file_in (S.Shelf.meaning shelf.now) file)) ≤ 255 }
+    ensures size { result ≡ line_length (drop place (file_in (S.Shelf.meaning shelf.now) file)) }
     ensures short { result ≤ 255 }
-    ensures bytes { take (result - 0) buffer.new ≡ first_line (drop place (file_in (meaning shelf.now) file)) }
+    ensures bytes { take (result - 0) buffer.new ≡ first_line (drop place (file_in (S.Shelf.meaning shelf.now) file)) }
 {
     let size = read_chunk(shelf, file, place, buffer);
     line_length(&buffer[0..size])

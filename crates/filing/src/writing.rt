@@ -19,8 +19,8 @@ const ROW: usize = LINE_MAX + 1;
 
 // How many bytes a range of a text is as a file.
 pub fn file_size<T: LineStore>(text: &T, range: Option<Range>) -> usize
-    requires { RangesOver (length (meaning text.now).lines) range }
-    ensures value { result ≡ length (contents_from range (meaning text.now)) }
+    requires { RangesOver (length (T.LineStore.meaning text.now).lines) range }
+    ensures value { result ≡ length (contents_from range (T.LineStore.meaning text.now)) }
     ensures bounded { result ≤ 1048576 }
 {
     match range {
@@ -85,10 +85,10 @@ fn add_line<T: LineStore, S: Shelf>(text: &T, n: usize, shelf: &mut S, file: usi
 
 // Copies line `n` with its break to the start of `row`, and answers how many bytes that is.
 fn copy_row<T: LineStore>(text: &T, n: usize, row: &mut [u8]) -> usize
-    requires here { (1 ≤ n) × (n ≤ length (meaning text.now).lines) }
+    requires here { (1 ≤ n) × (n ≤ length (T.LineStore.meaning text.now).lines) }
     requires space { length row.old ≡ 256 }
     ensures short { result ≤ 256 }
-    ensures bytes { take result row.new ≡ (line_at (meaning text.now) n).text ++ (10 ∷ []) }
+    ensures bytes { take result row.new ≡ (line_at (T.LineStore.meaning text.now) n).text ++ (10 ∷ []) }
 {
     let size = text.copy(n, row).unwrap();
     row[size] = LINE_BREAK;

@@ -1,6 +1,6 @@
 -- A line: a text of at most 255 bytes with no line break (byte 10) in it, and a tag.
 -- Bits 0 to 25 of a tag are the marks a to z, bit 26 means chosen, and there are no others.
-use Rattle.std.specs.Prelude.{◌≡◌, ℕ, ◌^◌, ◌<◌, ◌≤◌, Bool, false, not, ◌&&◌, ◌||◌, List, [], ◌∷◌, length, ◌==◌, nat_le, nat_lt}
+use Rattle.std.specs.Prelude.{◌≡◌, ℕ, ◌^◌, ◌<◌, ◌≤◌, Bool, true, false, not, ◌&&◌, ◌||◌, List, [], ◌∷◌, length, ◌==◌, nat_le, nat_lt}
 
 pub record Line : Type 0 where
   pub text : List ℕ
@@ -13,6 +13,11 @@ holds_break (b ∷ bs) = b == 10 || holds_break bs
 -- a text that a line may have
 abbrev pub fitting : List ℕ → Bool
 fitting t = nat_le (length t) 255 && not (holds_break t)
+
+-- each of these texts may be a line's
+abbrev pub all_fit : List (List ℕ) → Bool
+all_fit [] = true
+all_fit (t ∷ ts) = fitting t && all_fit ts
 
 -- a tag with no undefined bit
 abbrev pub defined : ℕ → Bool

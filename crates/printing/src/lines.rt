@@ -11,8 +11,8 @@ use ranges::range::Range;
 
 // How many bytes the lines of a range print as.
 pub fn printed_size<T: LineStore>(text: &T, range: Range) -> usize
-    requires { range.count ≡ length (meaning text.now).lines }
-    ensures { result ≡ length (printed (from_to range.first range.last (seen_lines (meaning text.now)))) }
+    requires { range.count ≡ length (T.LineStore.meaning text.now).lines }
+    ensures { result ≡ length (printed (from_to range.first range.last (seen_lines (T.LineStore.meaning text.now)))) }
 {
     let mut size = 0;
     for i in range.first - 1..range.last {
@@ -23,9 +23,9 @@ pub fn printed_size<T: LineStore>(text: &T, range: Range) -> usize
 
 // Prints the lines of a range at a place of a sheet that has room for them.
 pub fn print_lines<T: LineStore>(text: &T, range: Range, sheet: &mut [u8], at: usize)
-    requires count { range.count ≡ length (meaning text.now).lines }
-    requires room { at + length (printed (from_to range.first range.last (seen_lines (meaning text.now)))) ≤ length sheet.old }
-    ensures { sheet.new ≡ written sheet.old at (printed (from_to range.first range.last (seen_lines (meaning text.now)))) }
+    requires count { range.count ≡ length (T.LineStore.meaning text.now).lines }
+    requires room { at + length (printed (from_to range.first range.last (seen_lines (T.LineStore.meaning text.now)))) ≤ length sheet.old }
+    ensures { sheet.new ≡ written sheet.old at (printed (from_to range.first range.last (seen_lines (T.LineStore.meaning text.now)))) }
 {
     let mut place = at;
     for i in range.first - 1..range.last {
@@ -35,8 +35,8 @@ pub fn print_lines<T: LineStore>(text: &T, range: Range, sheet: &mut [u8], at: u
 
 // How many bytes line `n` prints as.
 fn line_size<T: LineStore>(text: &T, n: usize) -> usize
-    requires { (1 ≤ n) × (n ≤ length (meaning text.now).lines) }
-    ensures value { result ≡ length (line_at (meaning text.now) n).text + 1 }
+    requires { (1 ≤ n) × (n ≤ length (T.LineStore.meaning text.now).lines) }
+    ensures value { result ≡ length (line_at (T.LineStore.meaning text.now) n).text + 1 }
     ensures bound { result ≤ 256 }
 {
     text.length(n).unwrap() + 1
@@ -44,10 +44,10 @@ fn line_size<T: LineStore>(text: &T, n: usize) -> usize
 
 // Prints line `n` with its break at a place of a sheet that has room for it, and answers the place behind it.
 fn print_line<T: LineStore>(text: &T, n: usize, sheet: &mut [u8], at: usize) -> usize
-    requires line { (1 ≤ n) × (n ≤ length (meaning text.now).lines) }
-    requires room { at + (length (line_at (meaning text.now) n).text + 1) ≤ length sheet.old }
-    ensures value { result ≡ at + (length (line_at (meaning text.now) n).text + 1) }
-    ensures after { sheet.new ≡ written sheet.old at ((line_at (meaning text.now) n).text ++ (10 ∷ [])) }
+    requires line { (1 ≤ n) × (n ≤ length (T.LineStore.meaning text.now).lines) }
+    requires room { at + (length (line_at (T.LineStore.meaning text.now) n).text + 1) ≤ length sheet.old }
+    ensures value { result ≡ at + (length (line_at (T.LineStore.meaning text.now) n).text + 1) }
+    ensures after { sheet.new ≡ written sheet.old at ((line_at (T.LineStore.meaning text.now) n).text ++ (10 ∷ [])) }
 {
     let size = text.copy(n, &mut sheet[at..]).unwrap();
     sheet[at + size] = LINE_BREAK;

@@ -16,8 +16,8 @@ use tags::marks::find_mark;
 
 // The line that an address counts from. Numbers are at most 65,535, and no text has as many lines.
 fn resolve_base<T: LineStore>(text: &T, current: usize, base: Base<'_>) -> Result<usize, Fault>
-    requires { current ≤ length (meaning text.now).lines }
-    ensures value { result ≡ base_line (page (seen_lines (meaning text.now)) current) (base_view base.entry) }
+    requires { current ≤ length (T.LineStore.meaning text.now).lines }
+    ensures value { result ≡ base_line (page (seen_lines (T.LineStore.meaning text.now)) current) (base_view base.entry) }
     ensures bounded { IfOk result (λ n. n ≤ 65535) }
 {
     match base {
@@ -45,9 +45,9 @@ pub fn resolve_address<T: LineStore>(
     current: usize,
     address: Address<'_>,
 ) -> Result<usize, Fault>
-    requires { current ≤ length (meaning text.now).lines }
-    ensures value { result ≡ line_of (page (seen_lines (meaning text.now)) current) (address_view address.entry) }
-    ensures bounded { IfOk result (λ n. n ≤ length (meaning text.now).lines) }
+    requires { current ≤ length (T.LineStore.meaning text.now).lines }
+    ensures value { result ≡ line_of (page (seen_lines (T.LineStore.meaning text.now)) current) (address_view address.entry) }
+    ensures bounded { IfOk result (λ n. n ≤ length (T.LineStore.meaning text.now).lines) }
 {
     let base = match resolve_base(text, current, address.base) {
         Ok(base) => base,
@@ -72,8 +72,8 @@ fn resolve_both<T: LineStore>(
     addresses: Addresses<'_>,
     default: (usize, usize),
 ) -> Result<(usize, usize), Fault>
-    requires { current ≤ length (meaning text.now).lines }
-    ensures { seen (λ x. to x.0 x.1) result ≡ both (page (seen_lines (meaning text.now)) current) (addresses_view addresses.entry) (to default.0 default.1) }
+    requires { current ≤ length (T.LineStore.meaning text.now).lines }
+    ensures { seen (λ x. to x.0 x.1) result ≡ both (page (seen_lines (T.LineStore.meaning text.now)) current) (addresses_view addresses.entry) (to default.0 default.1) }
 {
     match addresses {
         Addresses::NoAddress => Ok(default),
@@ -100,9 +100,9 @@ pub fn resolve_range<T: LineStore>(
     current: usize,
     addresses: Addresses<'_>,
 ) -> Result<Range, Fault>
-    requires { current ≤ length (meaning text.now).lines }
-    ensures value { seen span_of result ≡ range_of (page (seen_lines (meaning text.now)) current) (addresses_view addresses.entry) (to current current) }
-    ensures count { IfOk result (λ x. x.count ≡ length (meaning text.now).lines) }
+    requires { current ≤ length (T.LineStore.meaning text.now).lines }
+    ensures value { seen span_of result ≡ range_of (page (seen_lines (T.LineStore.meaning text.now)) current) (addresses_view addresses.entry) (to current current) }
+    ensures count { IfOk result (λ x. x.count ≡ length (T.LineStore.meaning text.now).lines) }
 {
     let (first, last) = match resolve_both(text, current, addresses, (current, current)) {
         Ok(lines) => lines,
@@ -120,9 +120,9 @@ pub fn resolve_whole<T: LineStore>(
     current: usize,
     addresses: Addresses<'_>,
 ) -> Result<Option<Range>, Fault>
-    requires { current ≤ length (meaning text.now).lines }
-    ensures value { seen span_or result ≡ whole_or (page (seen_lines (meaning text.now)) current) (addresses_view addresses.entry) }
-    ensures count { IfOk result (RangesOver (length (meaning text.now).lines)) }
+    requires { current ≤ length (T.LineStore.meaning text.now).lines }
+    ensures value { seen span_or result ≡ whole_or (page (seen_lines (T.LineStore.meaning text.now)) current) (addresses_view addresses.entry) }
+    ensures count { IfOk result (RangesOver (length (T.LineStore.meaning text.now).lines)) }
 {
     if let Addresses::NoAddress = addresses {
         let count = text.count();
@@ -142,9 +142,9 @@ pub fn resolve_line<T: LineStore>(
     default: usize,
     zero_too: bool,
 ) -> Result<usize, Fault>
-    requires { current ≤ length (meaning text.now).lines }
-    ensures value { result ≡ one_line (page (seen_lines (meaning text.now)) current) (addresses_view addresses.entry) default zero_too }
-    ensures bounded { IfOk result (λ n. n ≤ length (meaning text.now).lines) }
+    requires { current ≤ length (T.LineStore.meaning text.now).lines }
+    ensures value { result ≡ one_line (page (seen_lines (T.LineStore.meaning text.now)) current) (addresses_view addresses.entry) default zero_too }
+    ensures bounded { IfOk result (λ n. n ≤ length (T.LineStore.meaning text.now).lines) }
     ensures accepted { IfOk result (λ n. least zero_too ≤ n) }
 {
     let (_, n) = match resolve_both(text, current, addresses, (default, default)) {

@@ -15,8 +15,8 @@ use patterns::Pattern;
 
 // Whether line `n` has a match.
 pub fn line_matches<T: LineStore>(text: &T, n: usize, pattern: &Pattern) -> bool
-    requires { (1 ≤ n) × (n ≤ length (meaning text.now).lines) }
-    ensures { result ≡ fits (pattern_meaning pattern.now) (seen (line_at (meaning text.now) n)) }
+    requires { (1 ≤ n) × (n ≤ length (T.LineStore.meaning text.now).lines) }
+    ensures { result ≡ fits (pattern_meaning pattern.now) (seen (line_at (T.LineStore.meaning text.now) n)) }
 {
     let mut buffer = [0u8; LINE_MAX];
     let size = copy_text(text, n, &mut buffer);
@@ -25,10 +25,10 @@ pub fn line_matches<T: LineStore>(text: &T, n: usize, pattern: &Pattern) -> bool
 
 // Copies the text of line `n`, which is there, and answers its length.
 fn copy_text<T: LineStore>(text: &T, n: usize, buffer: &mut [u8]) -> usize
-    requires present { (1 ≤ n) × (n ≤ length (meaning text.now).lines) }
+    requires present { (1 ≤ n) × (n ≤ length (T.LineStore.meaning text.now).lines) }
     requires room { 255 ≤ length buffer.old }
-    ensures size { (result ≡ length (line_at (meaning text.now) n).text) × (result ≤ 255) }
-    ensures copied { take result buffer.new ≡ (line_at (meaning text.now) n).text }
+    ensures size { (result ≡ length (line_at (T.LineStore.meaning text.now) n).text) × (result ≤ 255) }
+    ensures copied { take result buffer.new ≡ (line_at (T.LineStore.meaning text.now) n).text }
 {
     text.copy(n, buffer).unwrap()
 }
@@ -47,8 +47,8 @@ pub fn find_match<T: LineStore>(
     from: usize,
     to: usize,
 ) -> Option<usize>
-    requires { to ≤ length (meaning text.now).lines }
-    ensures value { result ≡ first_where (fits (pattern_meaning pattern.now)) (suc from) (drop from (take to (seen_lines (meaning text.now)))) }
+    requires { to ≤ length (T.LineStore.meaning text.now).lines }
+    ensures value { result ≡ first_where (fits (pattern_meaning pattern.now)) (suc from) (drop from (take to (seen_lines (T.LineStore.meaning text.now)))) }
     ensures within { IfSome result (λ n. n ≤ to) }
 {
     for n in from..to {
@@ -61,9 +61,9 @@ pub fn find_match<T: LineStore>(
 
 // The next line that matches a pattern between two `/`: behind the current one, then round from the first, the current one last.
 pub fn next_match<T: LineStore>(text: &T, current: usize, part: &[u8]) -> Option<usize>
-    requires { current ≤ length (meaning text.now).lines }
-    ensures value { result ≡ next_match (page (seen_lines (meaning text.now)) current) (slashed part.now) }
-    ensures within { IfSome result (λ n. n ≤ length (meaning text.now).lines) }
+    requires { current ≤ length (T.LineStore.meaning text.now).lines }
+    ensures value { result ≡ next_match (page (seen_lines (T.LineStore.meaning text.now)) current) (slashed part.now) }
+    ensures within { IfSome result (λ n. n ≤ length (T.LineStore.meaning text.now).lines) }
 {
     let Ok(pattern) = Pattern::read(b'/', part) else {
         return None;

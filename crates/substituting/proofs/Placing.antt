@@ -5,7 +5,8 @@ use Rattle.std.proofs.lemmas.Bool.{and_parts, leb-true}
 use Rattle.lines.specs.Line as stored
 use Rattle.lines.specs.Store.{Store, line_at, inserted}
 use Rattle.command.specs.Said.{Substitution}
-use Rattle.rules.specs.Doing.{all_fit, texts_of}
+use Rattle.lines.specs.Line.{all_fit}
+use Rattle.rules.specs.Doing.{texts_of}
 use Rattle.rules.specs.Lines.{Line, seen, seen_lines, created}
 use Rattle.rules.specs.Patterns.{matches, substituted}
 use Rattle.substituting.specs.Made.{lines_for}

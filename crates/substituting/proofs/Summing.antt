@@ -10,7 +10,8 @@ use Rattle.command.specs.View.{substitution_view}
 use Rattle.ranges.specs.declared.range.Range.{Range}
 use Rattle.ranges.specs.Spans.{span_of}
 use Rattle.rules.specs.Addresses.{Range as Span}
-use Rattle.rules.specs.Doing.{all_fit, texts_of}
+use Rattle.lines.specs.Line.{all_fit}
+use Rattle.rules.specs.Doing.{texts_of}
 use Rattle.rules.specs.Effects.{rewritten}
 use Rattle.rules.specs.Lines.{Line, seen, seen_lines, picked}
 use Rattle.rules.specs.Pieces.{span, last_new}

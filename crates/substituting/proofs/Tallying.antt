@@ -2,8 +2,8 @@
 use Rattle.std.proofs.Common.{◌≡◌, ℕ, zero, suc, ◌+◌, ◌-◌, ◌≤◌, min, Bool, true, false, ◌&&◌, List, [], ◌∷◌, ◌++◌, length, take, drop, sym, refl, ap, ◌∙◌, subst, arith}
 use Rattle.std.proofs.lemmas.List.{append-nil, append_assoc, length-append, length-drop, drop-append-le, take-append-le, drop_at}
 use Rattle.std.proofs.lemmas.Bool.{and_parts, leb-true}
-use Rattle.lines.specs.Line.{fitting}
-use Rattle.rules.specs.Doing.{all_fit, texts_of}
+use Rattle.lines.specs.Line.{fitting, all_fit}
+use Rattle.rules.specs.Doing.{texts_of}
 use Rattle.rules.specs.Lines.{Line, picked, created}
 use Rattle.rules.specs.Pieces.{Piece, old, new, span, placed, last_new}
 use Rattle.rules.specs.Printing.{printed}

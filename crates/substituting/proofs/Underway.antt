@@ -12,7 +12,8 @@ use Rattle.matching.specs.declared.answer.Match.{Match}
 use Rattle.ranges.specs.declared.range.Range.{Range}
 use Rattle.ranges.specs.Spans.{span_of}
 use Rattle.rules.specs.Addresses.{Range as Span, to}
-use Rattle.rules.specs.Doing.{all_fit, texts_of}
+use Rattle.lines.specs.Line.{all_fit}
+use Rattle.rules.specs.Doing.{texts_of}
 use Rattle.rules.specs.Effects.{rewritten}
 use Rattle.rules.specs.Lines.{Line, seen, seen_lines, created, picked}
 use Rattle.rules.specs.Patterns.{matches, in_front, replaced, substituted}

@@ -17,11 +17,11 @@ pub fn copy_hit<T: LineStore>(
     sought: Sought<'_>,
     line: &mut [u8],
 ) -> Option<usize>
-    requires present { (1 ≤ n) × (n ≤ length (meaning text.now).lines) }
+    requires present { (1 ≤ n) × (n ≤ length (T.LineStore.meaning text.now).lines) }
     requires reading { ReadFrom reading.now sought }
     requires full { length line.old ≡ 255 }
-    ensures hit { is_some result ≡ matches (sought_view sought.entry) (line_at (meaning text.now) n).text }
-    ensures line { IfSome result (λ size. (size ≤ 255) × (take size line.new ≡ (line_at (meaning text.now) n).text)) }
+    ensures hit { is_some result ≡ matches (sought_view sought.entry) (line_at (T.LineStore.meaning text.now) n).text }
+    ensures line { IfSome result (λ size. (size ≤ 255) × (take size line.new ≡ (line_at (T.LineStore.meaning text.now) n).text)) }
 {
     let size = copy_line(text, n, line);
     match search(reading, sought, &line[0..size], 0) {
@@ -32,10 +32,10 @@ pub fn copy_hit<T: LineStore>(
 
 // Copies line `n` to the start of `line`, and answers its size.
 fn copy_line<T: LineStore>(text: &T, n: usize, line: &mut [u8]) -> usize
-    requires present { (1 ≤ n) × (n ≤ length (meaning text.now).lines) }
+    requires present { (1 ≤ n) × (n ≤ length (T.LineStore.meaning text.now).lines) }
     requires full { length line.old ≡ 255 }
     ensures size { result ≤ 255 }
-    ensures line { take result line.new ≡ (line_at (meaning text.now) n).text }
+    ensures line { take result line.new ≡ (line_at (T.LineStore.meaning text.now) n).text }
 {
     text.copy(n, line).unwrap()
 }

@@ -1,9 +1,9 @@
 // What a substitution would make of a text, before anything is altered.
 ghost use Rattle.std.specs.Prelude.{◌≡◌, ℕ, ◌+◌, ◌≤◌, min, true, List, length};
-ghost use Rattle.lines.specs.Line.{fitting};
+ghost use Rattle.lines.specs.Line.{fitting, all_fit};
 ghost use Rattle.lines.specs.Store.{line_at};
 ghost use Rattle.command.specs.View.{substitution_view};
-ghost use Rattle.rules.specs.Doing.{all_fit, texts_of};
+ghost use Rattle.rules.specs.Doing.{texts_of};
 ghost use Rattle.rules.specs.Lines.{picked};
 ghost use Rattle.rules.specs.Patterns.{substituted};
 ghost use Rattle.rules.specs.Pieces.{news, last_new};
@@ -39,13 +39,13 @@ pub struct Reckoned {
 // What the substitution would make of the text: how many lines, whether each would fit, the last one created and its size. Of more
 // than 4,096 lines, which no store holds, each number of a line or of lines past that is answered as 4,097.
 pub fn reckon<T: LineStore>(text: &T, range: Range, substitution: Substitution<'_>) -> Reckoned
-    requires { range.count ≡ length (meaning text.now).lines }
-    ensures count { result.count ≡ min (length (after substitution.entry range (meaning text.now))) 4097 }
-    ensures fits { result.fits ≡ all_fit (texts_of (after substitution.entry range (meaning text.now))) }
-    ensures last { result.last ≡ min (last_new 0 0 (pieces_of substitution.entry range (meaning text.now))) 4097 }
-    ensures within { last_new 0 0 (pieces_of substitution.entry range (meaning text.now)) ≤ length (after substitution.entry range (meaning text.now)) }
-    ensures exact { result.count ≤ 4096 → (result.count ≡ length (after substitution.entry range (meaning text.now))) × (result.last ≡ last_new 0 0 (pieces_of substitution.entry range (meaning text.now))) }
-    ensures size { result.fits ≡ true → result.count ≤ 4096 → 1 ≤ result.last → result.last_size ≡ length (printed (picked (after substitution.entry range (meaning text.now)) result.last)) }
+    requires { range.count ≡ length (T.LineStore.meaning text.now).lines }
+    ensures count { result.count ≡ min (length (after substitution.entry range (T.LineStore.meaning text.now))) 4097 }
+    ensures fits { result.fits ≡ all_fit (texts_of (after substitution.entry range (T.LineStore.meaning text.now))) }
+    ensures last { result.last ≡ min (last_new 0 0 (pieces_of substitution.entry range (T.LineStore.meaning text.now))) 4097 }
+    ensures within { last_new 0 0 (pieces_of substitution.entry range (T.LineStore.meaning text.now)) ≤ length (after substitution.entry range (T.LineStore.meaning text.now)) }
+    ensures exact { result.count ≤ 4096 → (result.count ≡ length (after substitution.entry range (T.LineStore.meaning text.now))) × (result.last ≡ last_new 0 0 (pieces_of substitution.entry range (T.LineStore.meaning text.now))) }
+    ensures size { result.fits ≡ true → result.count ≤ 4096 → 1 ≤ result.last → result.last_size ≡ length (printed (picked (after substitution.entry range (T.LineStore.meaning text.now)) result.last)) }
 {
     let sought = substitution.sought;
     let reading = Pattern::read(sought.delimiter, sought.part);
@@ -59,9 +59,9 @@ fn reckon_lines<T: LineStore>(
     reading: &Reading,
     substitution: Substitution<'_>,
 ) -> Reckoned
-    requires count { range.count ≡ length (meaning text.now).lines }
+    requires count { range.count ≡ length (T.LineStore.meaning text.now).lines }
     requires reading { ReadFrom reading.now substitution.sought }
-    ensures { result ≡ reckoned_pieces none_reckoned (pieces_of substitution.entry range (meaning text.now)) }
+    ensures { result ≡ reckoned_pieces none_reckoned (pieces_of substitution.entry range (T.LineStore.meaning text.now)) }
 {
     let mut sum = Reckoned {
         count: range.first - 1,
@@ -157,10 +157,10 @@ fn reckon_line<T: LineStore>(
     reading: &Reading,
     substitution: Substitution<'_>,
 ) -> Reckoned
-    requires present { (1 ≤ n) × (n ≤ length (meaning text.now).lines) }
+    requires present { (1 ≤ n) × (n ≤ length (T.LineStore.meaning text.now).lines) }
     requires reading { ReadFrom reading.now substitution.sought }
     requires count { reckoned.count ≤ 4097 }
-    ensures value { result ≡ reckoned_pieces reckoned (pieces_for (substitution_view substitution.entry) n (line_at (meaning text.now) n).text) }
+    ensures value { result ≡ reckoned_pieces reckoned (pieces_for (substitution_view substitution.entry) n (line_at (T.LineStore.meaning text.now) n).text) }
     ensures count { result.count ≤ 4097 }
 {
     let mut line = [0u8; LINE_MAX];

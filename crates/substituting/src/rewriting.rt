@@ -1,9 +1,9 @@
 // The lines of a range that match, rewritten where they stand.
 ghost use Rattle.std.specs.Prelude.{◌≡◌, ◌+◌, ◌-◌, ◌<◌, ◌≤◌, true, ◌∷◌, ◌++◌, map, length, take, drop};
-ghost use Rattle.lines.specs.Line.{fitting};
+ghost use Rattle.lines.specs.Line.{fitting, all_fit};
 ghost use Rattle.lines.specs.Store.{line_at};
 ghost use Rattle.command.specs.View.{substitution_view};
-ghost use Rattle.rules.specs.Doing.{all_fit, texts_of};
+ghost use Rattle.rules.specs.Doing.{texts_of};
 ghost use Rattle.rules.specs.Lines.{seen, seen_lines, created};
 ghost use Rattle.rules.specs.Patterns.{substituted};
 ghost use Rattle.substituting.specs.Made.{after, lines_for};
@@ -23,12 +23,12 @@ const PLAIN: Tag = 0;
 
 // Rewrites the lines of the range that match.
 pub fn rewrite<T: LineStore>(text: &mut T, range: Range, substitution: Substitution<'_>)
-    requires count { range.count ≡ length (meaning text.old).lines }
-    requires fits { all_fit (texts_of (after substitution range (meaning text.old))) ≡ true }
-    requires room { length (after substitution range (meaning text.old)) ≤ (meaning text.old).capacity }
-    ensures lines { seen_lines (meaning text.new) ≡ after substitution.entry range (meaning text.old) }
-    ensures capacity { (meaning text.new).capacity ≡ (meaning text.old).capacity }
-    ensures front { take (range.first - 1) (seen_lines (meaning text.new)) ≡ take (range.first - 1) (seen_lines (meaning text.old)) }
+    requires count { range.count ≡ length (T.LineStore.meaning text.old).lines }
+    requires fits { all_fit (texts_of (after substitution range (T.LineStore.meaning text.old))) ≡ true }
+    requires room { length (after substitution range (T.LineStore.meaning text.old)) ≤ (T.LineStore.meaning text.old).capacity }
+    ensures lines { seen_lines (T.LineStore.meaning text.new) ≡ after substitution.entry range (T.LineStore.meaning text.old) }
+    ensures capacity { (T.LineStore.meaning text.new).capacity ≡ (T.LineStore.meaning text.old).capacity }
+    ensures front { take (range.first - 1) (seen_lines (T.LineStore.meaning text.new)) ≡ take (range.first - 1) (seen_lines (T.LineStore.meaning text.old)) }
 {
     let sought = substitution.sought;
     let reading = Pattern::read(sought.delimiter, sought.part);
@@ -42,12 +42,12 @@ fn rewrite_lines<T: LineStore>(
     reading: &Reading,
     substitution: Substitution<'_>,
 )
-    requires count { range.count ≡ length (meaning text.old).lines }
+    requires count { range.count ≡ length (T.LineStore.meaning text.old).lines }
     requires reading { ReadFrom reading.now substitution.sought }
-    requires fits { all_fit (texts_of (after substitution range (meaning text.old))) ≡ true }
-    requires room { length (after substitution range (meaning text.old)) ≤ (meaning text.old).capacity }
-    ensures lines { seen_lines (meaning text.new) ≡ after substitution.entry range (meaning text.old) }
-    ensures capacity { (meaning text.new).capacity ≡ (meaning text.old).capacity }
+    requires fits { all_fit (texts_of (after substitution range (T.LineStore.meaning text.old))) ≡ true }
+    requires room { length (after substitution range (T.LineStore.meaning text.old)) ≤ (T.LineStore.meaning text.old).capacity }
+    ensures lines { seen_lines (T.LineStore.meaning text.new) ≡ after substitution.entry range (T.LineStore.meaning text.old) }
+    ensures capacity { (T.LineStore.meaning text.new).capacity ≡ (T.LineStore.meaning text.old).capacity }
 {
     let mut done = range.first - 1;
     for _i in range.first - 1..range.last {
@@ -62,13 +62,13 @@ fn rewrite_line<T: LineStore>(
     reading: &Reading,
     substitution: Substitution<'_>,
 ) -> usize
-    requires present { done < length (meaning text.old).lines }
+    requires present { done < length (T.LineStore.meaning text.old).lines }
     requires reading { ReadFrom reading.now substitution.sought }
-    requires fits { all_fit (texts_of (lines_for (substitution_view substitution) (seen (line_at (meaning text.old) (done + 1))))) ≡ true }
-    requires room { length (meaning text.old).lines + length (lines_for (substitution_view substitution) (seen (line_at (meaning text.old) (done + 1)))) ≤ (meaning text.old).capacity + 1 }
-    ensures lines { seen_lines (meaning text.new) ≡ take done (seen_lines (meaning text.old)) ++ (lines_for (substitution_view substitution.entry) (seen (line_at (meaning text.old) (done + 1))) ++ drop (done + 1) (seen_lines (meaning text.old))) }
-    ensures capacity { (meaning text.new).capacity ≡ (meaning text.old).capacity }
-    ensures done { result ≡ done + length (lines_for (substitution_view substitution.entry) (seen (line_at (meaning text.old) (done + 1)))) }
+    requires fits { all_fit (texts_of (lines_for (substitution_view substitution) (seen (line_at (T.LineStore.meaning text.old) (done + 1))))) ≡ true }
+    requires room { length (T.LineStore.meaning text.old).lines + length (lines_for (substitution_view substitution) (seen (line_at (T.LineStore.meaning text.old) (done + 1)))) ≤ (T.LineStore.meaning text.old).capacity + 1 }
+    ensures lines { seen_lines (T.LineStore.meaning text.new) ≡ take done (seen_lines (T.LineStore.meaning text.old)) ++ (lines_for (substitution_view substitution.entry) (seen (line_at (T.LineStore.meaning text.old) (done + 1))) ++ drop (done + 1) (seen_lines (T.LineStore.meaning text.old))) }
+    ensures capacity { (T.LineStore.meaning text.new).capacity ≡ (T.LineStore.meaning text.old).capacity }
+    ensures done { result ≡ done + length (lines_for (substitution_view substitution.entry) (seen (line_at (T.LineStore.meaning text.old) (done + 1)))) }
 {
     let n = done + 1;
     let mut line = [0u8; LINE_MAX];
@@ -95,14 +95,14 @@ fn put_lines<T: LineStore>(
     line: &[u8],
     out: &mut [u8],
 ) -> usize
-    requires behind { behind ≤ length (meaning text.old).lines }
+    requires behind { behind ≤ length (T.LineStore.meaning text.old).lines }
     requires reading { ReadFrom reading.now substitution.sought }
     requires short { length line.now ≤ 255 }
     requires full { length out.old ≡ 255 }
     requires fits { all_fit (substituted (substitution_view substitution) line.now) ≡ true }
-    requires room { length (meaning text.old).lines + length (substituted (substitution_view substitution) line.now) ≤ (meaning text.old).capacity }
-    ensures lines { seen_lines (meaning text.new) ≡ take behind (seen_lines (meaning text.old)) ++ (map created (substituted (substitution_view substitution.entry) line.now) ++ drop behind (seen_lines (meaning text.old))) }
-    ensures capacity { (meaning text.new).capacity ≡ (meaning text.old).capacity }
+    requires room { length (T.LineStore.meaning text.old).lines + length (substituted (substitution_view substitution) line.now) ≤ (T.LineStore.meaning text.old).capacity }
+    ensures lines { seen_lines (T.LineStore.meaning text.new) ≡ take behind (seen_lines (T.LineStore.meaning text.old)) ++ (map created (substituted (substitution_view substitution.entry) line.now) ++ drop behind (seen_lines (T.LineStore.meaning text.old))) }
+    ensures capacity { (T.LineStore.meaning text.new).capacity ≡ (T.LineStore.meaning text.old).capacity }
     ensures done { result ≡ behind + length (substituted (substitution_view substitution.entry) line.now) }
 {
     let mut done = behind;
@@ -118,21 +118,21 @@ fn put_lines<T: LineStore>(
 
 // Puts a line of the first `size` bytes where nothing can refuse it.
 fn put_line<T: LineStore>(text: &mut T, behind: usize, bytes: &[u8], size: usize)
-    requires behind { behind ≤ length (meaning text.old).lines }
-    requires room { length (meaning text.old).lines < (meaning text.old).capacity }
+    requires behind { behind ≤ length (T.LineStore.meaning text.old).lines }
+    requires room { length (T.LineStore.meaning text.old).lines < (T.LineStore.meaning text.old).capacity }
     requires size { size ≤ length bytes.now }
     requires fits { fitting (take size bytes.now) ≡ true }
-    ensures lines { seen_lines (meaning text.new) ≡ take behind (seen_lines (meaning text.old)) ++ (created (take size bytes.now) ∷ drop behind (seen_lines (meaning text.old))) }
-    ensures capacity { (meaning text.new).capacity ≡ (meaning text.old).capacity }
+    ensures lines { seen_lines (T.LineStore.meaning text.new) ≡ take behind (seen_lines (T.LineStore.meaning text.old)) ++ (created (take size bytes.now) ∷ drop behind (seen_lines (T.LineStore.meaning text.old))) }
+    ensures capacity { (T.LineStore.meaning text.new).capacity ≡ (T.LineStore.meaning text.old).capacity }
 {
     let _ = text.put(behind, &bytes[0..size], PLAIN);
 }
 
 // Takes line `n` away.
 fn take_line<T: LineStore>(text: &mut T, n: usize)
-    requires { (1 ≤ n) × (n ≤ length (meaning text.old).lines) }
-    ensures lines { seen_lines (meaning text.new) ≡ take (n - 1) (seen_lines (meaning text.old)) ++ drop n (seen_lines (meaning text.old)) }
-    ensures capacity { (meaning text.new).capacity ≡ (meaning text.old).capacity }
+    requires { (1 ≤ n) × (n ≤ length (T.LineStore.meaning text.old).lines) }
+    ensures lines { seen_lines (T.LineStore.meaning text.new) ≡ take (n - 1) (seen_lines (T.LineStore.meaning text.old)) ++ drop n (seen_lines (T.LineStore.meaning text.old)) }
+    ensures capacity { (T.LineStore.meaning text.new).capacity ≡ (T.LineStore.meaning text.old).capacity }
 {
     let _ = text.remove(n);
 }

@@ -7,8 +7,8 @@ use lines::store::LineStore;
 
 // The first chosen line behind line `behind`.
 pub fn next_chosen<T: LineStore>(text: &T, behind: usize) -> Option<usize>
-    ensures value { result ≡ first_where (λ l. l.chosen) (suc behind) (drop behind (seen_lines (meaning text.now))) }
-    ensures within { IfSome result (λ n. (behind < n) × (n ≤ length (meaning text.now).lines)) }
+    ensures value { result ≡ first_where (λ l. l.chosen) (suc behind) (drop behind (seen_lines (T.LineStore.meaning text.now))) }
+    ensures within { IfSome result (λ n. (behind < n) × (n ≤ length (T.LineStore.meaning text.now).lines)) }
 {
     for i in behind..text.count() {
         if chosen_at(text, i + 1) {
@@ -20,19 +20,19 @@ pub fn next_chosen<T: LineStore>(text: &T, behind: usize) -> Option<usize>
 
 // Line `n` is chosen or not, as told.
 pub fn set_chosen<T: LineStore>(text: &mut T, n: usize, chosen: bool)
-    requires { (1 ≤ n) × (n ≤ length (meaning text.old).lines) }
-    ensures lines { seen_lines (meaning text.new) ≡ on_line n (choosing chosen) (seen_lines (meaning text.old)) }
-    ensures count { length (meaning text.new).lines ≡ length (meaning text.old).lines }
-    ensures capacity { (meaning text.new).capacity ≡ (meaning text.old).capacity }
+    requires { (1 ≤ n) × (n ≤ length (T.LineStore.meaning text.old).lines) }
+    ensures lines { seen_lines (T.LineStore.meaning text.new) ≡ on_line n (choosing chosen) (seen_lines (T.LineStore.meaning text.old)) }
+    ensures count { length (T.LineStore.meaning text.new).lines ≡ length (T.LineStore.meaning text.old).lines }
+    ensures capacity { (T.LineStore.meaning text.new).capacity ≡ (T.LineStore.meaning text.old).capacity }
 {
     choose(text, n, chosen);
 }
 
 // No line is chosen any more.
 pub fn clear_chosen<T: LineStore>(text: &mut T)
-    ensures lines { seen_lines (meaning text.new) ≡ unchosen (seen_lines (meaning text.old)) }
-    ensures count { length (meaning text.new).lines ≡ length (meaning text.old).lines }
-    ensures capacity { (meaning text.new).capacity ≡ (meaning text.old).capacity }
+    ensures lines { seen_lines (T.LineStore.meaning text.new) ≡ unchosen (seen_lines (T.LineStore.meaning text.old)) }
+    ensures count { length (T.LineStore.meaning text.new).lines ≡ length (T.LineStore.meaning text.old).lines }
+    ensures capacity { (T.LineStore.meaning text.new).capacity ≡ (T.LineStore.meaning text.old).capacity }
 {
     for i in 0..text.count() {
         choose(text, i + 1, false);

@@ -9,8 +9,8 @@ use lines::store::LineStore;
 
 // The first line with a mark.
 pub fn find_mark<T: LineStore>(text: &T, mark: Mark) -> Option<usize>
-    ensures value { result ≡ first_where (has_mark (bit_of mark.letter)) 1 (seen_lines (meaning text.now)) }
-    ensures within { IfSome result (λ n. (1 ≤ n) × (n ≤ length (meaning text.now).lines)) }
+    ensures value { result ≡ first_where (has_mark (bit_of mark.letter)) 1 (seen_lines (T.LineStore.meaning text.now)) }
+    ensures within { IfSome result (λ n. (1 ≤ n) × (n ≤ length (T.LineStore.meaning text.now).lines)) }
 {
     for behind in 0..text.count() {
         if bears(text, behind + 1, mark) {
@@ -22,10 +22,10 @@ pub fn find_mark<T: LineStore>(text: &T, mark: Mark) -> Option<usize>
 
 // Moves a mark to line `n`: no other line has it then.
 pub fn set_mark<T: LineStore>(text: &mut T, n: usize, mark: Mark)
-    requires { (1 ≤ n) × (n ≤ length (meaning text.old).lines) }
-    ensures lines { seen_lines (meaning text.new) ≡ mark_on n (bit_of mark.letter) (seen_lines (meaning text.old)) }
-    ensures count { length (meaning text.new).lines ≡ length (meaning text.old).lines }
-    ensures capacity { (meaning text.new).capacity ≡ (meaning text.old).capacity }
+    requires { (1 ≤ n) × (n ≤ length (T.LineStore.meaning text.old).lines) }
+    ensures lines { seen_lines (T.LineStore.meaning text.new) ≡ mark_on n (bit_of mark.letter) (seen_lines (T.LineStore.meaning text.old)) }
+    ensures count { length (T.LineStore.meaning text.new).lines ≡ length (T.LineStore.meaning text.old).lines }
+    ensures capacity { (T.LineStore.meaning text.new).capacity ≡ (T.LineStore.meaning text.old).capacity }
 {
     clear_mark(text, mark);
     give_mark(text, n, mark);
@@ -33,9 +33,9 @@ pub fn set_mark<T: LineStore>(text: &mut T, n: usize, mark: Mark)
 
 // Takes a mark from every line.
 fn clear_mark<T: LineStore>(text: &mut T, mark: Mark)
-    ensures lines { seen_lines (meaning text.new) ≡ map (with_mark (bit_of mark.letter) false) (seen_lines (meaning text.old)) }
-    ensures count { length (meaning text.new).lines ≡ length (meaning text.old).lines }
-    ensures capacity { (meaning text.new).capacity ≡ (meaning text.old).capacity }
+    ensures lines { seen_lines (T.LineStore.meaning text.new) ≡ map (with_mark (bit_of mark.letter) false) (seen_lines (T.LineStore.meaning text.old)) }
+    ensures count { length (T.LineStore.meaning text.new).lines ≡ length (T.LineStore.meaning text.old).lines }
+    ensures capacity { (T.LineStore.meaning text.new).capacity ≡ (T.LineStore.meaning text.old).capacity }
 {
     for i in 0..text.count() {
         take_mark(text, i + 1, mark);

@@ -11,8 +11,8 @@ use lines::store::LineStore;
 
 // The tag of line `n`.
 fn tag_of<T: LineStore>(text: &T, n: usize) -> Tag
-    requires { (1 ≤ n) × (n ≤ length (meaning text.now).lines) }
-    ensures value { result ≡ (line_at (meaning text.now) n).tag }
+    requires { (1 ≤ n) × (n ≤ length (T.LineStore.meaning text.now).lines) }
+    ensures value { result ≡ (line_at (T.LineStore.meaning text.now) n).tag }
     ensures defined { result < 2 ^ 27 }
 {
     text.tag(n).unwrap()
@@ -20,10 +20,10 @@ fn tag_of<T: LineStore>(text: &T, n: usize) -> Tag
 
 // Gives line `n`, whose tag is `from`, the tag `to`. A store is not bothered where that changes nothing.
 fn retag<T: LineStore>(text: &mut T, n: usize, from: Tag, to: Tag)
-    requires line { (1 ≤ n) × (n ≤ length (meaning text.old).lines) }
-    requires from { from ≡ (line_at (meaning text.old) n).tag }
+    requires line { (1 ≤ n) × (n ≤ length (T.LineStore.meaning text.old).lines) }
+    requires from { from ≡ (line_at (T.LineStore.meaning text.old) n).tag }
     requires to { to < 2 ^ 27 }
-    ensures { meaning text.exit.now ≡ with_lines (meaning text.entry.now) (set (meaning text.entry.now).lines (n - 1) (record { text = (line_at (meaning text.entry.now) n).text; tag = to })) }
+    ensures { T.LineStore.meaning text.exit.now ≡ with_lines (T.LineStore.meaning text.entry.now) (set (T.LineStore.meaning text.entry.now).lines (n - 1) (record { text = (line_at (T.LineStore.meaning text.entry.now) n).text; tag = to })) }
 {
     if to != from {
         let _ = text.set_tag(n, to);
@@ -32,26 +32,26 @@ fn retag<T: LineStore>(text: &mut T, n: usize, from: Tag, to: Tag)
 
 // Whether line `n` bears a mark.
 pub(crate) fn bears<T: LineStore>(text: &T, n: usize, mark: Mark) -> bool
-    requires { (1 ≤ n) × (n ≤ length (meaning text.now).lines) }
-    ensures { result ≡ has_mark (bit_of mark.letter) (seen (line_at (meaning text.now) n)) }
+    requires { (1 ≤ n) × (n ≤ length (T.LineStore.meaning text.now).lines) }
+    ensures { result ≡ has_mark (bit_of mark.letter) (seen (line_at (T.LineStore.meaning text.now) n)) }
 {
     has_mark(tag_of(text, n), mark)
 }
 
 // Whether line `n` is chosen.
 pub(crate) fn chosen_at<T: LineStore>(text: &T, n: usize) -> bool
-    requires { (1 ≤ n) × (n ≤ length (meaning text.now).lines) }
-    ensures { result ≡ (seen (line_at (meaning text.now) n)).chosen }
+    requires { (1 ≤ n) × (n ≤ length (T.LineStore.meaning text.now).lines) }
+    ensures { result ≡ (seen (line_at (T.LineStore.meaning text.now) n)).chosen }
 {
     is_chosen(tag_of(text, n))
 }
 
 // Line `n` gets a mark.
 pub(crate) fn give_mark<T: LineStore>(text: &mut T, n: usize, mark: Mark)
-    requires { (1 ≤ n) × (n ≤ length (meaning text.old).lines) }
-    ensures lines { seen_lines (meaning text.new) ≡ on_line n (with_mark (bit_of mark.letter) true) (seen_lines (meaning text.old)) }
-    ensures count { length (meaning text.new).lines ≡ length (meaning text.old).lines }
-    ensures capacity { (meaning text.new).capacity ≡ (meaning text.old).capacity }
+    requires { (1 ≤ n) × (n ≤ length (T.LineStore.meaning text.old).lines) }
+    ensures lines { seen_lines (T.LineStore.meaning text.new) ≡ on_line n (with_mark (bit_of mark.letter) true) (seen_lines (T.LineStore.meaning text.old)) }
+    ensures count { length (T.LineStore.meaning text.new).lines ≡ length (T.LineStore.meaning text.old).lines }
+    ensures capacity { (T.LineStore.meaning text.new).capacity ≡ (T.LineStore.meaning text.old).capacity }
 {
     let tag = tag_of(text, n);
     retag(text, n, tag, with_mark(tag, mark));
@@ -59,10 +59,10 @@ pub(crate) fn give_mark<T: LineStore>(text: &mut T, n: usize, mark: Mark)
 
 // Line `n` loses a mark.
 pub(crate) fn take_mark<T: LineStore>(text: &mut T, n: usize, mark: Mark)
-    requires { (1 ≤ n) × (n ≤ length (meaning text.old).lines) }
-    ensures lines { seen_lines (meaning text.new) ≡ on_line n (with_mark (bit_of mark.letter) false) (seen_lines (meaning text.old)) }
-    ensures count { length (meaning text.new).lines ≡ length (meaning text.old).lines }
-    ensures capacity { (meaning text.new).capacity ≡ (meaning text.old).capacity }
+    requires { (1 ≤ n) × (n ≤ length (T.LineStore.meaning text.old).lines) }
+    ensures lines { seen_lines (T.LineStore.meaning text.new) ≡ on_line n (with_mark (bit_of mark.letter) false) (seen_lines (T.LineStore.meaning text.old)) }
+    ensures count { length (T.LineStore.meaning text.new).lines ≡ length (T.LineStore.meaning text.old).lines }
+    ensures capacity { (T.LineStore.meaning text.new).capacity ≡ (T.LineStore.meaning text.old).capacity }
 {
     let tag = tag_of(text, n);
     retag(text, n, tag, without_mark(tag, mark));
@@ -70,10 +70,10 @@ pub(crate) fn take_mark<T: LineStore>(text: &mut T, n: usize, mark: Mark)
 
 // Line `n` is chosen or not, as told.
 pub(crate) fn choose<T: LineStore>(text: &mut T, n: usize, chosen: bool)
-    requires { (1 ≤ n) × (n ≤ length (meaning text.old).lines) }
-    ensures lines { seen_lines (meaning text.new) ≡ on_line n (choosing chosen) (seen_lines (meaning text.old)) }
-    ensures count { length (meaning text.new).lines ≡ length (meaning text.old).lines }
-    ensures capacity { (meaning text.new).capacity ≡ (meaning text.old).capacity }
+    requires { (1 ≤ n) × (n ≤ length (T.LineStore.meaning text.old).lines) }
+    ensures lines { seen_lines (T.LineStore.meaning text.new) ≡ on_line n (choosing chosen) (seen_lines (T.LineStore.meaning text.old)) }
+    ensures count { length (T.LineStore.meaning text.new).lines ≡ length (T.LineStore.meaning text.old).lines }
+    ensures capacity { (T.LineStore.meaning text.new).capacity ≡ (T.LineStore.meaning text.old).capacity }
 {
     let tag = tag_of(text, n);
     retag(text, n, tag, chosen_as(tag, chosen));

@@ -9,5 +9,5 @@ returns g c =
     let bytes = file_in (g.S.Shelf.meaning c.args.shelf.now) c.args.file in
     record {
       lines = c.lines_counted.ensures ∙ (ap lines_of c.count_file-count.ensures.value ∙ counted-lines bytes);
-      fits = c.all_fit_lem.ensures ∙ (ap fits_of c.count_file-count.ensures.value ∙ counted_fits bytes);
+      fits = c.all_fit.ensures ∙ (ap fits_of c.count_file-count.ensures.value ∙ counted_fits bytes);
     }

@@ -1,8 +1,7 @@
 use Rattle.std.proofs.Common.{ℕ, List, ◌∷◌, ◌++◌, take, drop, ap, ◌∙◌, subst, arith}
 use Rattle.std.proofs.lemmas.Bool.{and_parts}
-use Rattle.lines.specs.Line.{fitting}
+use Rattle.lines.specs.Line.{fitting, all_fit}
 use Rattle.command.specs.View.{substitution_view}
-use Rattle.rules.specs.Doing.{all_fit}
 use Rattle.rules.specs.Lines.{seen_lines, created}
 use Rattle.rules.specs.Patterns.{substituted}
 use Rattle.substituting.specs.Spelling.{lines_left, first_of}

@@ -2,7 +2,8 @@ use Rattle.std.proofs.Common.{◌≡◌, ℕ, ◌+◌, ◌-◌, ◌<◌, ◌≤�
 use Rattle.std.proofs.lemmas.List.{length-map, length-take}
 use Rattle.lines.specs.Store.{line_at}
 use Rattle.command.specs.View.{substitution_view}
-use Rattle.rules.specs.Doing.{all_fit, texts_of}
+use Rattle.lines.specs.Line.{all_fit}
+use Rattle.rules.specs.Doing.{texts_of}
 use Rattle.rules.specs.Lines.{Line, seen, seen_lines, created}
 use Rattle.rules.specs.Patterns.{substituted}
 use Rattle.substituting.specs.Made.{lines_for}
@@ -68,11 +69,11 @@ returns g c =
     let here : n < length S = omega (arith, c.requires.present) in
     let e = c.take_line.ensures.lines in
     record {
-      lines = c.put-lines.ensures.lines
+      lines = c.put_lines.ensures.lines
           ∙ ap (λ (ls : List Line). take n ls ++ (map created (substituted s w) ++ drop n ls)) e
           ∙ ap (λ (x : List Line). x ++ (map created (substituted s w) ++ drop n (take (n + 1 - 1) S ++ drop (n + 1) S))) (gone_front S n here)
           ∙ ap (λ (x : List Line). take n S ++ (map created (substituted s w) ++ x)) (gone_rest S n here)
           ∙ ap (λ (x : List Line). take n S ++ (x ++ drop (n + 1) S)) made;
-      capacity = c.put-lines.ensures.capacity ∙ c.take_line.ensures.capacity;
-      done = c.put-lines.ensures.done ∙ ap (λ k. n + k) (sym (length-map (substituted s w) created) ∙ ap (λ (ls : List Line). length ls) made);
+      capacity = c.put_lines.ensures.capacity ∙ c.take_line.ensures.capacity;
+      done = c.put_lines.ensures.done ∙ ap (λ k. n + k) (sym (length-map (substituted s w) created) ∙ ap (λ (ls : List Line). length ls) made);
     }

@@ -1,7 +1,8 @@
 use Rattle.std.proofs.Common.{◌≡◌, ◌+◌, ◌-◌, ◌<◌, ◌≤◌, List, length, ap, ◌∙◌, arith}
 use Rattle.std.proofs.lemmas.List.{length-map}
 use Rattle.command.specs.View.{substitution_view}
-use Rattle.rules.specs.Doing.{all_fit, texts_of}
+use Rattle.lines.specs.Line.{all_fit}
+use Rattle.rules.specs.Doing.{texts_of}
 use Rattle.rules.specs.Lines.{Line, seen, seen_lines}
 use Rattle.substituting.proofs.Underway.{span_behind, same_after, underway_start, present_now, fits_next, room_next, underway_next, underway_over}
 use Rattle.substituting.proofs.rewriting.rewrite_lines.Goals as goal
@@ -21,7 +22,7 @@ rewrite_line-done-requires g c =
     let range = c.args.range in
     let s = substitution_view c.args.substitution in
     let r = span_behind range in
-    let i = c.loop-i.-i in
+    let i = c.loop-i._i in
     let k = c.loop-i.done in
     let p = c.loop-i.invariant in
     let n : length (seen_lines t) ≡ length t.lines = length-map t.lines seen in
@@ -40,7 +41,7 @@ pub loop-i-preserved : goal.loop-i-preserved
 loop-i-preserved g c =
     let t = g.T.LineStore.meaning c.args.text.now in
     let range = c.args.range in
-    let i = c.loop-i.-i in
+    let i = c.loop-i._i in
     let n : length (seen_lines t) ≡ length t.lines = length-map t.lines seen in
     let here : i < length (seen_lines t) = omega (arith, range.within, c.requires.count, c.loop-i-test.true) in
     let low : range.first - 1 + 1 ≤ i + 1 = omega (arith, c.loop-i.auto) in
@@ -53,7 +54,7 @@ pub returns : goal.returns
 returns g c =
     let t = g.T.LineStore.meaning c.args.text.now in
     let range = c.args.range in
-    let i = c.loop-i.-i in
+    let i = c.loop-i._i in
     let n : length (seen_lines t) ≡ length t.lines = length-map t.lines seen in
     let end : i ≤ range.last = omega (arith, c.loop-i.auto, range.order) in
     record {

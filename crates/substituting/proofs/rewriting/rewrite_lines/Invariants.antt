@@ -6,5 +6,5 @@ use Rattle.substituting.proofs.rewriting.rewrite_lines.Given as goal
 
 abbrev pub invariant-loop-i : goal.invariant-loop-i
 invariant-loop-i g l =
-    Underway (substitution_view l.substitution) (to (l.initial.done + 1) l.-i-end) (g.T.LineStore.meaning l.initial.text)
-    (g.T.LineStore.meaning l.text) l.-i l.done
+    Underway (substitution_view l.substitution) (to (l.initial.done + 1) l._i-end) (g.T.LineStore.meaning l.initial.text)
+    (g.T.LineStore.meaning l.text) l._i l.done
