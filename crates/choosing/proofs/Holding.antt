@@ -1,5 +1,5 @@
 -- What a chooser says of a line, by the pattern that was read for it.
-use Rattle.std.proofs.Common.{◌≡◌, ℕ, Bool, not, List, Result, sym, ap, ◌∙◌}
+use Rattle.std.proofs.Common.{◌≡◌, ℕ, Bool, not, List, Result, ap}
 use Rattle.patterns.specs.declared.fault.PatternFault.{PatternFault}
 use Rattle.patterns.specs.declared.pattern.Pattern.{Pattern}
 use Rattle.patterns.specs.View.{viewed}

@@ -11,7 +11,7 @@ use Rattle.editing.proofs.Placing.{placed-append, placed_front, placed_back}
 use Rattle.rules.specs.Commands.{putting, accepted, refusal}
 use Rattle.rules.specs.Doing.{kept_if}
 use Rattle.rules.specs.Giving.{typed, typed_in}
-use Rattle.rules.specs.Lines.{Line, Page, page, seen, seen_lines, created, unchosen}
+use Rattle.rules.specs.Lines.{Page, page, seen, seen_lines, created, unchosen}
 use Rattle.rules.specs.Pieces.{new, stay, placed}
 use Rattle.rules.specs.World.{World, Mode, typing, with_mode, with_text, with_unsaved}
 

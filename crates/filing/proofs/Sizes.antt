@@ -1,5 +1,5 @@
 -- How long the lines of a store can be as a file.
-use Rattle.std.proofs.Common.{ℕ, zero, suc, ◌+◌, ◌-◌, ◌*◌, ◌≤◌, List, [], ◌∷◌, ◌++◌, map, length, get_or, take, drop, arith}
+use Rattle.std.proofs.Common.{ℕ, zero, suc, ◌-◌, ◌*◌, ◌≤◌, List, [], ◌∷◌, ◌++◌, map, length, get_or, take, drop, arith}
 use Rattle.std.proofs.lemmas.List.{length-append, length_push}
 use Rattle.lines.specs.Line as stored
 use Rattle.lines.specs.Store.{Store, Sound}

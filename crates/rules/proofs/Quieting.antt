@@ -13,7 +13,7 @@ use Rattle.rules.specs.Commands.{alteration_if, Outcome, accepted, or_refusal, a
 use Rattle.rules.specs.Doing.{Done, texts_of, perform, doing, is_change, unsaved_if, kept_if}
 use Rattle.rules.specs.Effects.{Effect, shows, alters, marks, files, current_range, name_of, effect_of}
 use Rattle.rules.specs.Files.{filed}
-use Rattle.rules.specs.Giving.{Handed, odd_tail, commanded, by_mode, entered, entry_fault, Reply, give}
+use Rattle.rules.specs.Giving.{odd_tail, commanded, by_mode, entered, entry_fault, Reply, give}
 use Rattle.rules.specs.Globals.{Run, setting, wanted, chosen_in, choice, action_done, command_done, read_done, obeyed, turn, begun, next_turn, turns_of, start_of, run_of}
 use Rattle.rules.specs.Lines.{Line, Page, with_mark, choosing, clean, on_line, mark_on}
 use Rattle.rules.specs.Runs.{given, kind_of}

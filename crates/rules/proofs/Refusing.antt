@@ -1,5 +1,5 @@
 -- A refused line alters nothing, unless a turn of a global had begun.
-use Rattle.std.proofs.Common.{◌≡◌, ℕ, zero, suc, ◌+◌, ◌-◌, ◌≤◌, Bool, true, false, not, ◌||◌, ltb, leb, List, [], ◌∷◌, ◌++◌, length, is_some, Some, None, Ok, Err, Option, sym, refl, ap, ◌∙◌, subst, arith}
+use Rattle.std.proofs.Common.{◌≡◌, ℕ, zero, suc, ◌-◌, ◌≤◌, Bool, true, false, not, ◌||◌, ltb, List, [], ◌∷◌, ◌++◌, length, is_some, Some, None, Ok, Err, Option, sym, refl, ◌∙◌, arith}
 use Rattle.std.specs.Str.{bytes_eq}
 use Rattle.command.specs.declared.fault.Fault.{Fault}
 use Rattle.command.specs.declared.fault.Fault.TheVariants.{CommandTooLong, TextFull}
@@ -9,7 +9,7 @@ use Rattle.reading.specs.Commands.{said}
 use Rattle.command.specs.Said.{Addresses, Action, Command, act, append_text, edit_file, quit_session, undo_change, global, Said}
 use Rattle.rules.specs.Addresses.{whole_or, one_line}
 use Rattle.rules.specs.Checks.{check}
-use Rattle.rules.specs.Commands.{Kind, plain, stopping, putting, Outcome, refusal, or_refusal, accepted, acted, appended, edited, read_in, quitted, undone, globally, by_command, command_line}
+use Rattle.rules.specs.Commands.{plain, stopping, putting, Outcome, refusal, or_refusal, accepted, read_in, globally, by_command, command_line}
 use Rattle.rules.specs.Doing.{Done, doing, kept_if}
 use Rattle.rules.specs.Giving.{Handed, Reply, typed_in, odd_tail, commanded, gathered, typed, by_mode, entered, entry_fault, turned_away, answered, give}
 use Rattle.rules.specs.Globals.{Run, action_done, command_done, read_done, obeyed, turn, begun, next_turn, turns_of, start_of, run_of, setting, wanted}

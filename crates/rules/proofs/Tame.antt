@@ -3,7 +3,7 @@ use Rattle.std.proofs.Common.{◌≡◌, ℕ, zero, suc, ◌+◌, ◌<◌, ◌�
 use Rattle.std.proofs.lemmas.List.{length-map, get_or-set_other}
 use Rattle.std.proofs.lemmas.Bool.{cases_eq}
 use Rattle.rules.specs.Globals.{one_if, sum_of, chosen_in, choice}
-use Rattle.rules.specs.Lines.{Line, Page, page, has_mark, with_mark, choosing, unchosen, clean, created, on_line, first_where, mark_on}
+use Rattle.rules.specs.Lines.{Line, Page, page, has_mark, with_mark, choosing, clean, created, on_line, first_where, mark_on}
 use Rattle.rules.specs.Pieces.{Piece, placed}
 use Rattle.rules.specs.Settled.{Settled}
 use Rattle.rules.proofs.Staying.{Present, length-placed}

@@ -1,15 +1,14 @@
 -- The first accepted `u` behind a change brings back the page from just before it; and when `u` is accepted at all.
 use Rattle.std.proofs.Common.{◌≡◌, ℕ, suc, ◌-◌, Bool, true, false, List, [], ◌∷◌, length, Some, None, Ok, sym, refl, ap, ◌∙◌, subst, arith}
-use Rattle.shelf.specs.Shelf.{Shelf}
 use Rattle.command.specs.declared.fault.Fault.TheVariants.{NothingToUndo}
 use Rattle.reading.specs.Commands.{said}
-use Rattle.command.specs.Said.{Addresses, undo_change, Said}
+use Rattle.command.specs.Said.{Said}
 use Rattle.rules.specs.Checks.{check}
 use Rattle.rules.specs.Commands.{Kind, alteration, undoing, beginning, putting, stopping, reading, plain, accepted, Outcome, or_refusal, by_command, command_line}
 use Rattle.rules.specs.Giving.{Handed, odd_tail, by_mode, entered, entry_fault, Reply, turned_away, answered, give}
 use Rattle.rules.specs.Globals.{setting, chosen_in, one_if}
 use Rattle.rules.specs.Lines.{Line, Page, page, unchosen, choosing, clean}
-use Rattle.rules.specs.Runs.{opened, given, kind_of}
+use Rattle.rules.specs.Runs.{given, kind_of}
 use Rattle.rules.specs.Undo
 use Rattle.rules.specs.Undo.{AsksUndo, UndoReady, Fresh, opening, editing, UndoRefused, Quiet, Between, more, Typed, stop, put, refuse, Change, altering, UndoRight}
 use Rattle.rules.specs.World.{World, commands, gathering, with_mode, with_text, with_keep, with_unsaved}

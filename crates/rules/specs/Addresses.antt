@@ -1,12 +1,11 @@
 -- Addresses worked out: the line that each means, and the range or the one line that a command takes.
-use Rattle.std.specs.Prelude.{ℕ, suc, ◌+◌, ◌-◌, Bool, true, false, ◌&&◌, ◌||◌, List, length, take, drop, is_some, Some, None, Ok, Err, Option, nat_le}
-use Rattle.command.specs.declared.fault.Fault.{Fault}
+use Rattle.std.specs.Prelude.{ℕ, suc, ◌+◌, ◌-◌, Bool, ◌&&◌, ◌||◌, List, length, take, drop, Some, None, Ok, Option, nat_le}
 use Rattle.command.specs.declared.fault.Fault.TheVariants.{OutsideText, NoMark, NoMatch}
 use Rattle.command.specs.Marks.{bit_of}
 use Rattle.reading.specs.Read.{Read, ◌>>=◌}
 use Rattle.rules.specs.Checks.{◌>>◌, check, or_fault}
 use Rattle.command.specs.Said.{Base, at_current, at_last, at_number, at_mark, at_match, Address, Addresses, no_address, one_address, two_addresses, Sought}
-use Rattle.rules.specs.Lines.{Line, Page, has_mark, first_where}
+use Rattle.rules.specs.Lines.{Page, has_mark, first_where}
 use Rattle.rules.specs.Patterns.{matches}
 
 abbrev pub or_else : Option ℕ → Option ℕ → Option ℕ

@@ -1,20 +1,20 @@
 -- What a command line comes to: the world afterwards, what is printed, the fault, a global's counts, and its kind.
-use Rattle.std.specs.Prelude.{ℕ, Bool, true, false, not, ◌||◌, List, [], ◌∷◌, map, length, Some, None, Ok, Err, Option, nat_le}
+use Rattle.std.specs.Prelude.{ℕ, Bool, true, false, not, ◌||◌, List, [], map, length, Some, None, Ok, Err, Option, nat_le}
 use Rattle.command.specs.declared.fault.Fault.{Fault}
 use Rattle.command.specs.declared.fault.Fault.TheVariants.{Unsaved, NothingToUndo, FileNotFound, TooManyLines, LineTooLong, SheetFull}
-use Rattle.command.specs.Said.{Addresses, FileName, Action, Chooser, Command, act, append_text, edit_file, quit_session, undo_change, global, Said}
+use Rattle.command.specs.Said.{Addresses, FileName, Action, Command, act, append_text, edit_file, quit_session, undo_change, global}
 use Rattle.command.specs.Lists.{commands_of}
 use Rattle.reading.specs.Read.{Read, ◌>>=◌}
 use Rattle.reading.specs.Commands.{said}
 use Rattle.rules.specs.Checks.{◌>>◌, or_fault, check}
-use Rattle.rules.specs.Addresses.{Range, whole_or, one_line}
-use Rattle.rules.specs.Doing.{Done, doing, is_change, unsaved_if, kept_if, short}
+use Rattle.rules.specs.Addresses.{whole_or, one_line}
+use Rattle.rules.specs.Doing.{doing, is_change, unsaved_if, kept_if, short}
 use Rattle.rules.specs.Effects.{name_of}
 use Rattle.rules.specs.Files.{contents_of, split}
 use Rattle.rules.specs.Globals.{Run, setting, wanted, chosen_in, start_of, run_of}
-use Rattle.rules.specs.Lines.{Page, page, clean, created}
+use Rattle.rules.specs.Lines.{page, clean, created}
 use Rattle.rules.specs.Printing.{numbered}
-use Rattle.rules.specs.World.{World, Mode, commands, gathering, typing, ended, with_mode, with_text, with_keep, with_unsaved}
+use Rattle.rules.specs.World.{World, typing, ended, with_mode, with_text, with_keep, with_unsaved}
 
 -- what a given line was, for undoing
 pub data Kind : Type 0 where

@@ -1,7 +1,5 @@
 -- A command done: reckoned as a whole, then 60, 61, 62 and what the shelf answers; and what is a change.
-use Rattle.std.specs.Prelude.{ℕ, Bool, true, false, ◌&&◌, List, [], ◌∷◌, ◌++◌, map, length, Ok, Err, nat_le}
-use Rattle.shelf.specs.Shelf.{Shelf}
-use Rattle.command.specs.declared.fault.Fault.{Fault}
+use Rattle.std.specs.Prelude.{ℕ, Bool, true, false, ◌&&◌, List, [], ◌∷◌, map, length, Ok, nat_le}
 use Rattle.command.specs.declared.fault.Fault.TheVariants.{TooManyLines, LineTooLong, SheetFull}
 use Rattle.reading.specs.Read.{Read, ◌>>=◌}
 use Rattle.command.specs.Said.{Addresses, Action, delete_lines, mark_line, move_lines, print_lines, print_next, print_number, substitute, write_file}

@@ -1,15 +1,14 @@
 -- What each command that a list may hold would do: its lines worked out and checked, nothing reckoned or altered yet.
-use Rattle.std.specs.Prelude.{ℕ, suc, ◌+◌, ◌-◌, Bool, true, false, cond, ◌&&◌, ◌||◌, List, [], ◌∷◌, ◌++◌, length, Some, None, Ok, Err, Option, ◌==◌, nat_le, nat_lt}
-use Rattle.command.specs.declared.fault.Fault.{Fault}
+use Rattle.std.specs.Prelude.{ℕ, suc, ◌+◌, ◌-◌, Bool, true, false, cond, ◌&&◌, ◌||◌, List, [], ◌∷◌, ◌++◌, length, Ok, ◌==◌, nat_le, nat_lt}
 use Rattle.command.specs.declared.fault.Fault.TheVariants.{NoMatch, DestinationInRange, NoName}
 use Rattle.command.specs.Marks.{bit_of}
 use Rattle.reading.specs.Read.{Read, ◌>>=◌}
-use Rattle.command.specs.Said.{Address, Addresses, Sought, FileName, remembered_name, given_name, Substitution, Action, delete_lines, mark_line, move_lines, print_lines, print_next, print_number, substitute, write_file}
+use Rattle.command.specs.Said.{Addresses, FileName, remembered_name, given_name, Substitution, Action, delete_lines, mark_line, move_lines, print_lines, print_next, print_number, substitute, write_file}
 use Rattle.rules.specs.Checks.{◌>>◌, or_fault, check}
 use Rattle.rules.specs.Addresses.{Range, to, line_of, range_of, whole_or, one_line}
 use Rattle.rules.specs.Lines.{Line, Page, picked, from_to, created}
 use Rattle.rules.specs.Patterns.{matches, substituted}
-use Rattle.rules.specs.Pieces.{Piece, old, new, stay, news, placed, last_new}
+use Rattle.rules.specs.Pieces.{Piece, old, stay, news, placed, last_new}
 use Rattle.rules.specs.Printing.{numbered, printed}
 use Rattle.rules.specs.World.{World}
 

@@ -1,15 +1,13 @@
 -- Worked examples, as one joint statement: lines given to a session, and what they must come to.
-use Rattle.std.specs.Prelude.{◌≡◌, ℕ, Bool, true, false, List, [], ◌∷◌, ◌++◌, map, length, take, replicate, Some, None, codes, Option}
-use Prim.Native.String.{String}
+use Rattle.std.specs.Prelude.{◌≡◌, ℕ, true, false, List, [], ◌∷◌, ◌++◌, map, length, take, replicate, Some, None, codes, Option}
 use Rattle.shelf.specs.Shelf.{Shelf}
 use Rattle.command.specs.declared.fault.Fault.{Fault}
-use Rattle.command.specs.declared.fault.Fault.TheVariants.{InputTooLong, CommandTooLong, BadCommand, NoMark, NoMatch, Unsaved, NothingToUndo, NotInList, TextFull, TooManyLines, LineTooLong, SheetFull, DestinationInRange}
-use Rattle.rules.specs.Commands.{Outcome}
+use Rattle.command.specs.declared.fault.Fault.TheVariants.{InputTooLong, CommandTooLong, BadCommand, NoMark, NoMatch, Unsaved, NothingToUndo, TooManyLines, LineTooLong, SheetFull, DestinationInRange}
 use Rattle.rules.specs.Doing.{texts_of}
-use Rattle.rules.specs.Giving.{Handed, Answer, Reply, give}
+use Rattle.rules.specs.Giving.{Handed, Reply, give}
 use Rattle.rules.specs.Globals.{chosen_in}
-use Rattle.rules.specs.Lines.{Line, page, created}
-use Rattle.rules.specs.World.{World, Mode, commands}
+use Rattle.rules.specs.Lines.{page, created}
+use Rattle.rules.specs.World.{World, commands}
 
 -- the session that the examples are given to: an empty shelf, and these lines, the last of them current
 abbrev pub empty_shelf : Shelf

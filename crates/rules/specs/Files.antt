@@ -1,5 +1,5 @@
 -- Files: what the shelf answers to a whole file written, and the lines of a file read.
-use Rattle.std.specs.Prelude.{ℕ, true, false, List, [], ◌∷◌, ◌++◌, length, Some, None, Ok, Err, Option, Result, ◌==◌}
+use Rattle.std.specs.Prelude.{ℕ, true, false, List, [], ◌∷◌, length, Some, None, Ok, Err, Option, Result, ◌==◌}
 use Rattle.shelf.specs.declared.fault.ShelfFault.{ShelfFault}
 use Rattle.shelf.specs.declared.fault.ShelfFault.TheVariants as says
 use Rattle.shelf.specs.Shelf.{Shelf, contents_at, lookup_answer, clear_answer, clear_after, add_after}

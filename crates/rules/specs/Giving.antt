@@ -7,7 +7,7 @@ use Rattle.command.specs.declared.fault.Fault.TheVariants as fault
 use Rattle.command.specs.Numbers.{number_of}
 use Rattle.rules.specs.Commands.{Kind, putting, stopping, plain, Outcome, accepted, refusal, command_line}
 use Rattle.rules.specs.Doing.{kept_if}
-use Rattle.rules.specs.Lines.{Line, Page, page, unchosen, created}
+use Rattle.rules.specs.Lines.{Page, page, unchosen, created}
 use Rattle.rules.specs.Pieces.{new, stay, placed}
 use Rattle.rules.specs.World.{World, Mode, commands, gathering, typing, ended, with_mode, with_text, with_unsaved, with_warned}
 

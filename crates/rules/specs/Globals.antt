@@ -2,12 +2,12 @@
 use Rattle.std.specs.Prelude.{ℕ, zero, suc, ◌+◌, ◌-◌, Bool, true, false, not, ◌&&◌, ◌||◌, List, [], ◌∷◌, ◌++◌, length, is_some, Some, None, Ok, Err, Option, nat_le}
 use Rattle.command.specs.declared.fault.Fault.{Fault}
 use Rattle.command.specs.declared.fault.Fault.TheVariants.{NotInList}
-use Rattle.command.specs.Said.{Addresses, Sought, Action, Chooser, matching_lines, lacking_lines, Command, act, append_text, edit_file, quit_session, undo_change, global, Said}
+use Rattle.command.specs.Said.{Addresses, Action, Chooser, matching_lines, lacking_lines, Command, act, append_text, edit_file, quit_session, undo_change, global, Said}
 use Rattle.reading.specs.Read.{Read}
 use Rattle.reading.specs.Commands.{Setting, said}
 use Rattle.rules.specs.Addresses.{Range}
 use Rattle.rules.specs.Doing.{Done, doing, is_change, unsaved_if, kept_if}
-use Rattle.rules.specs.Lines.{Line, Page, page, choosing, unchosen, clean, on_line, first_where}
+use Rattle.rules.specs.Lines.{Line, Page, page, choosing, clean, on_line, first_where}
 use Rattle.rules.specs.Patterns.{matches}
 use Rattle.rules.specs.World.{World, with_text}
 

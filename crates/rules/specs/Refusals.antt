@@ -1,5 +1,5 @@
 -- What a refused line leaves: everything as it was. A global that faults in a turn is the one exception.
-use Rattle.std.specs.Prelude.{◌≡◌, ℕ, Some, None, Option}
+use Rattle.std.specs.Prelude.{◌≡◌, Some}
 use Rattle.command.specs.declared.fault.Fault.{Fault}
 use Rattle.rules.specs.Giving.{Handed, give}
 use Rattle.rules.specs.World.{World}

@@ -1,5 +1,5 @@
 -- What `w` writes comes back when `e` reads it: the same lines, in the same order.
-use Rattle.std.specs.Prelude.{◌≡◌, ℕ, false, List, [], ◌∷◌, Some, None, Ok}
+use Rattle.std.specs.Prelude.{◌≡◌, ℕ, false, List, [], ◌∷◌, Some, Ok}
 use Rattle.lines.specs.Line.{holds_break}
 use Rattle.shelf.specs.Shelf.{Shelf}
 use Rattle.command.specs.Said.{Addresses, FileName, given_name, write_file}

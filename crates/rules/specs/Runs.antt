@@ -1,5 +1,5 @@
 -- A session from its opening on: the world after each line given, and what each line was.
-use Rattle.std.specs.Prelude.{ℕ, Bool, true, false, List, [], Some, None}
+use Rattle.std.specs.Prelude.{ℕ, false, [], None}
 use Rattle.shelf.specs.Shelf.{Shelf}
 use Rattle.rules.specs.Commands.{Kind}
 use Rattle.rules.specs.Giving.{Handed, give}

@@ -1,5 +1,5 @@
 -- What holds of a session between any two calls, from its opening on.
-use Rattle.std.specs.Prelude.{◌≡◌, ℕ, ◌<◌, ◌≤◌, length}
+use Rattle.std.specs.Prelude.{◌≡◌, ℕ, ◌≤◌, length}
 use Rattle.shelf.specs.Shelf.{Shelf}
 use Rattle.rules.specs.Globals.{one_if, sum_of, chosen_in}
 use Rattle.rules.specs.Lines.{Page, has_mark}

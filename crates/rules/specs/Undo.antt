@@ -1,5 +1,5 @@
 -- What `u` brings back, over a session's lines: text, marks and current line as they were just before the last change.
-use Rattle.std.specs.Prelude.{◌≡◌, ℕ, suc, false, List, Some, None, Ok}
+use Rattle.std.specs.Prelude.{◌≡◌, ℕ, suc, false, Some, None, Ok}
 use Rattle.shelf.specs.Shelf.{Shelf}
 use Rattle.command.specs.declared.fault.Fault.TheVariants.{NothingToUndo}
 use Rattle.command.specs.Said.{Addresses, undo_change}

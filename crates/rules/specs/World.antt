@@ -1,7 +1,7 @@
 -- What a session works on, as a whole: its mode and memory, the text and the keep with their current lines, the shelf.
-use Rattle.std.specs.Prelude.{ℕ, Bool, true, false, not, ◌&&◌, List, Some, None, Option}
+use Rattle.std.specs.Prelude.{ℕ, Bool, true, not, ◌&&◌, List, Some, None, Option}
 use Rattle.shelf.specs.Shelf.{Shelf}
-use Rattle.rules.specs.Lines.{Line, Page}
+use Rattle.rules.specs.Lines.{Page}
 
 pub data Mode : Type 0 where
   commands : Mode

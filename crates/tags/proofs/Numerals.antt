@@ -1,5 +1,5 @@
 -- The lowest bits of a number, as a tag holds them, and what adding or taking away one bit changes.
-use Rattle.std.proofs.Common.{◌≡◌, ℕ, zero, suc, ◌+◌, ◌-◌, ◌*◌, ◌/◌, ◌%◌, ◌^◌, ◌<◌, ◌≤◌, Bool, true, false, eqb, leb, ◌⊎◌, List, [], ◌∷◌, length, get_or, set, sym, refl, ap, ◌∙◌, inl, inr, div-one, mul_left_comm, one-add, arith, rules}
+use Rattle.std.proofs.Common.{◌≡◌, ℕ, zero, suc, ◌+◌, ◌-◌, ◌*◌, ◌/◌, ◌%◌, ◌^◌, ◌<◌, ◌≤◌, true, false, eqb, ◌⊎◌, ◌∷◌, get_or, set, sym, refl, ap, ◌∙◌, inl, inr, div-one, mul_left_comm, one-add, arith}
 use native.Mathlib.Nat.{pow-succ', div-eq_of_lt, add-div_right}
 use Rattle.std.proofs.lemmas.Nat.{pow_pos, shr-shr}
 use Rattle.std.proofs.lemmas.Bool.{cases_lt}

@@ -1,4 +1,4 @@
-use Rattle.std.proofs.Common.{◌≡◌, not, ap, ◌∙◌}
+use Rattle.std.proofs.Common.{not, ap, ◌∙◌}
 use Rattle.choosing.proofs.Holding.{holds_matching, holds_lacking}
 use Rattle.choosing.proofs.wanting.chooser_holds.Goals as goal
 

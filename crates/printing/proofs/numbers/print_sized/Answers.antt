@@ -1,4 +1,4 @@
-use Rattle.std.proofs.Common.{◌≡◌, refl, ◌∙◌, arith}
+use Rattle.std.proofs.Common.{refl, ◌∙◌, arith}
 use Rattle.std.proofs.lemmas.List.{length-set}
 use Rattle.printing.proofs.Digits.{number-length, more-length, some-digit}
 use Rattle.printing.proofs.Numbering.{break_first, digit_next, digit_last}

@@ -1,4 +1,4 @@
-use Rattle.std.proofs.Common.{◌≡◌, ◌+◌, ◌*◌, ◌<◌, true, ◌⊎◌, length, is_some, sym, ap, ◌∙◌, inr, ⊎_elim, arith, rules}
+use Rattle.std.proofs.Common.{◌≡◌, ◌+◌, ◌*◌, ◌<◌, true, length, is_some, sym, ap, ◌∙◌, inr, ⊎_elim, arith, rules}
 use Rattle.std.proofs.lemmas.Bool.{both_ways}
 use Rattle.reading.specs.Addresses.{digit_at}
 use Rattle.reading.proofs.Digits.{digit_shorter, digits_on, number_none, number-over, number_is}

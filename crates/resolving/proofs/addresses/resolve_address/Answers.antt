@@ -1,4 +1,4 @@
-use Rattle.std.proofs.Common.{◌≡◌, sym, inl, inr, arith, rules}
+use Rattle.std.proofs.Common.{sym, inl, inr, arith}
 use Rattle.command.specs.View.{address_view}
 use Rattle.rules.specs.Lines.{page, seen_lines}
 use Rattle.resolving.proofs.Working.{length_seen, line-inside, line_outside}

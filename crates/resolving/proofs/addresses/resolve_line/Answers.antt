@@ -1,4 +1,4 @@
-use Rattle.std.proofs.Common.{◌≡◌, ◌≤◌, sym, ap, ◌∙◌, arith, rules}
+use Rattle.std.proofs.Common.{◌≡◌, sym, ap, ◌∙◌, arith}
 use Rattle.command.specs.View.{addresses_view}
 use Rattle.rules.specs.Lines.{page, seen_lines}
 use Rattle.resolving.specs.Lookup.{least}

@@ -1,4 +1,4 @@
-use Rattle.std.proofs.Common.{◌≡◌, ℕ, Bool, true, false, length, Ok, sym, ap, ◌∙◌, arith, rules}
+use Rattle.std.proofs.Common.{◌≡◌, length, Ok, sym, ap, ◌∙◌, arith}
 use Rattle.command.specs.View.{addresses_view}
 use Rattle.ranges.specs.Bounds.{is_range}
 use Rattle.ranges.specs.Spans.{span_of}

@@ -1,4 +1,4 @@
-use Rattle.std.proofs.Common.{◌≡◌, ℕ, length, Ok, sym, ap, ◌∙◌, subst, arith, rules}
+use Rattle.std.proofs.Common.{◌≡◌, ℕ, length, Ok, sym, ap, ◌∙◌, subst, arith}
 use Rattle.command.specs.declared.said.Addresses.{Addresses}
 use Rattle.command.specs.View.{addresses_view}
 use Rattle.rules.specs.Addresses.{to, whole_or}

@@ -1,8 +1,8 @@
-use Rattle.std.proofs.Common.{◌≡◌, ℕ, suc, ◌+◌, ◌≤◌, List, length, take, drop, Some, None, Option, sym, refl, ap, ◌∙◌, add-one, arith, rules}
+use Rattle.std.proofs.Common.{◌≡◌, ℕ, suc, ◌+◌, ◌≤◌, length, take, drop, Some, sym, ap, ◌∙◌, add-one, arith, rules}
 use Rattle.std.proofs.lemmas.List.{at_drop_all, length-take-le, length-map}
 use Rattle.lines.specs.Store.{line_at}
 use Rattle.patterns.specs.View.{meaning as pattern_meaning}
-use Rattle.rules.specs.Lines.{Line, seen, seen_lines, first_where}
+use Rattle.rules.specs.Lines.{seen, seen_lines, first_where}
 use Rattle.resolving.specs.Lookup.{fits}
 use Rattle.resolving.proofs.Seeking.{first_here, first-later, step_first}
 use Rattle.resolving.proofs.lookup.find_match.Goals as goal

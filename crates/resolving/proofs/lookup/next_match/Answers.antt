@@ -1,4 +1,4 @@
-use Rattle.std.proofs.Common.{◌≡◌, ℕ, suc, take, drop, Option, sym, ap, ◌∙◌, arith, rules}
+use Rattle.std.proofs.Common.{ℕ, take, drop, Option, sym, ap, ◌∙◌, arith}
 use Rattle.std.proofs.lemmas.List.{length-map}
 use Rattle.patterns.specs.View.{meaning as pattern_meaning}
 use Rattle.rules.specs.Addresses.{or_else}

@@ -1,4 +1,4 @@
-use Rattle.std.proofs.Common.{◌≡◌, false}
+use Rattle.std.proofs.Common.{false}
 use Rattle.rules.specs.Lines.{choosing}
 use Rattle.tags.proofs.Changing.{Walked}
 use Rattle.tags.proofs.chosen.clear_chosen.Given as goal

@@ -1,4 +1,4 @@
-use Rattle.std.proofs.Common.{◌≡◌, sym, ◌∙◌, arith}
+use Rattle.std.proofs.Common.{sym, ◌∙◌, arith}
 use Rattle.tags.proofs.Finding.{found_here, found_behind, found_none}
 use Rattle.tags.proofs.chosen.next_chosen.Goals as goal
 

@@ -1,5 +1,5 @@
-use Rattle.std.proofs.Common.{◌≡◌, false, length}
-use Rattle.rules.specs.Lines.{seen_lines, with_mark}
+use Rattle.std.proofs.Common.{false}
+use Rattle.rules.specs.Lines.{with_mark}
 use Rattle.command.specs.Marks.{bit_of}
 use Rattle.tags.proofs.Changing.{Walked}
 use Rattle.tags.proofs.marks.clear_mark.Given as goal

@@ -1,4 +1,4 @@
-use Rattle.std.proofs.Common.{◌≡◌, sym, ◌∙◌, arith}
+use Rattle.std.proofs.Common.{sym, ◌∙◌, arith}
 use Rattle.rules.specs.Lines.{has_mark}
 use Rattle.command.specs.Marks.{bit_of}
 use Rattle.tags.proofs.Finding.{found_here, found_behind, found_none}

@@ -1,4 +1,4 @@
-use Rattle.std.proofs.Common.{◌≡◌, ap}
+use Rattle.std.proofs.Common.{ap}
 use Rattle.rules.specs.Lines.{choosing}
 use Rattle.lines.specs.Store.{Store}
 use Rattle.tags.proofs.Changing.{changed, changed-count}

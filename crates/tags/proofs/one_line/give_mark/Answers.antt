@@ -1,4 +1,4 @@
-use Rattle.std.proofs.Common.{◌≡◌, true, ap}
+use Rattle.std.proofs.Common.{true, ap}
 use Rattle.rules.specs.Lines.{with_mark}
 use Rattle.command.specs.Marks.{bit_of}
 use Rattle.lines.specs.Store.{Store}

@@ -1,4 +1,4 @@
-use Rattle.std.proofs.Common.{◌≡◌, Bool, sym, ap, ◌∙◌}
+use Rattle.std.proofs.Common.{Bool, sym, ap, ◌∙◌}
 use Rattle.rules.specs.Lines.{seen, choosing}
 use Rattle.tags.proofs.tag.chosen_as.Goals as goal
 

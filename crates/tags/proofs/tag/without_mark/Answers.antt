@@ -1,4 +1,4 @@
-use Rattle.std.proofs.Common.{◌≡◌, ℕ, ◌-◌, ◌^◌, ◌<◌, ◌≤◌, Bool, true, false, List, [], sym, ap, ◌∙◌, arith}
+use Rattle.std.proofs.Common.{◌-◌, false, [], sym, ap, ◌∙◌, arith}
 use Rattle.command.specs.Marks.{bit_of}
 use Rattle.rules.specs.Lines.{seen}
 use Rattle.tags.proofs.Bearing.{same_mark, bit-within, less_mark}

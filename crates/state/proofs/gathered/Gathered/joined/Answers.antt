@@ -1,5 +1,5 @@
-use Rattle.std.proofs.Common.{ℕ, ◌+◌, ◌≤◌, List, [], ◌∷◌, length, take, ap, ◌∙◌, arith, rules}
-use Rattle.state.proofs.Joining.{over, two_over, length-joined, too_long, not_too_long}
+use Rattle.std.proofs.Common.{◌+◌, length, arith, rules}
+use Rattle.state.proofs.Joining.{two_over, length-joined, too_long, not_too_long}
 use Rattle.state.proofs.gathered.Gathered.joined.Goals as goal
 
 pub returns-then-line-len : goal.returns-then-line-len
