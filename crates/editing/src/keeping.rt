@@ -2,7 +2,7 @@
 ghost use Rattle.std.specs.Prelude.{◌≡◌};
 ghost use Rattle.rules.specs.Lines.{seen_lines, unchosen};
 
-use crate::ranges::empty;
+use crate::blocks::empty;
 use crate::single::{copy_line, tag_of};
 use crate::swapping::{move_tail, swap_front};
 use lines::store::LineStore;

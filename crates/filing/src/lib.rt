@@ -4,5 +4,5 @@
 mod count;
 mod counting;
 pub mod fault;
-pub mod reading;
+pub mod reading_files;
 pub mod writing;

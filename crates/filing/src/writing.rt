@@ -10,7 +10,7 @@ use crate::fault::shelf_fault;
 use command::fault::Fault;
 use lines::line::{LINE_BREAK, LINE_MAX};
 use lines::store::LineStore;
-use printing::lines::printed_size;
+use printing::listing::printed_size;
 use ranges::range::Range;
 use shelf::interface::Shelf;
 
