@@ -22,7 +22,7 @@ pub fn put_line<T: LineStore>(text: &mut T, behind: usize, bytes: &[u8], tag: Ta
     requires short { length bytes.now ≤ 255 }
     requires unbroken { holds_break bytes.now ≡ false }
     requires defined { tag < 2 ^ 27 }
-    ensures { T.LineStore.meaning text.exit.now ≡ with_line (T.LineStore.meaning text.entry.now) behind (record { text = bytes.now; tag = tag }) }
+    ensures { T.LineStore.meaning text.new ≡ with_line (T.LineStore.meaning text.old) behind (record { text = bytes.now; tag = tag }) }
 {
     let _ = text.put(behind, bytes, tag);
 }

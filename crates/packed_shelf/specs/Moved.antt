@@ -33,8 +33,8 @@ module _ (rows : List Row) (p : ℕ) (r : Row) (lt : p < length rows) (is : r �
   pub behind_is : end_at rows p + behind rows p ≡ total rows
   behind_is = sum_by-take-drop (λ x. x.size) rows (p + 1)
 
-  pub rows-emptied : set (shift_after rows (p + 1) p (length rows - 1 - p)) (length rows - 1) (sized 0 r) ≡ rows_emptied rows p
-  rows-emptied =
+  pub rows_emptied_lem : set (shift_after rows (p + 1) p (length rows - 1 - p)) (length rows - 1) (sized 0 r) ≡ rows_emptied rows p
+  rows_emptied_lem =
       let at = row_at_lem in
       let z = sized 0 r in
       let goal : set (shifted rows (p + 1) p (length rows - 1 - p)) (length rows - 1) z ≡ take p rows ++ (drop (p + 1) rows ++ z ∷ []) =
@@ -50,9 +50,9 @@ module _ (rows : List Row) (p : ℕ) (r : Row) (lt : p < length rows) (is : r �
       goal ∙ ap (λ (xs : List Row). take p rows ++ (map (longer n) xs ++ drop (p + 1) rows)) (sym row_at_lem)
 
   module _ (bytes : List ℕ) (used : ℕ) (u : used ≡ total rows) where
-    pub bytes-emptied : total rows ≤ length bytes → (start end : ℕ) → start ≡ start_at rows p → end ≡ end_at rows p
+    pub bytes_emptied_lem : total rows ≤ length bytes → (start end : ℕ) → start ≡ start_at rows p → end ≡ end_at rows p
         → shift_after bytes end start (used - end) ≡ bytes_emptied rows p bytes
-    bytes-emptied fits start end s e =
+    bytes_emptied_lem fits start end s e =
         let b = behind_is in
         let l = end_is in
         let tail : used - end ≡ behind rows p = omega arith in

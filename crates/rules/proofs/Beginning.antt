@@ -67,16 +67,16 @@ next_behind m x xs e (Some n) h = (
   },
 )
 
-next-turn : (m : ℕ) (xs : List Known) → Next m xs (first_where (λ x. x.waits) (suc m) xs)
-next-turn m [] = refl
-next-turn m (x ∷ xs) = by_test (Next m (x ∷ xs)) x.waits _ _
+next_turn_lem : (m : ℕ) (xs : List Known) → Next m xs (first_where (λ x. x.waits) (suc m) xs)
+next_turn_lem m [] = refl
+next_turn_lem m (x ∷ xs) = by_test (Next m (x ∷ xs)) x.waits _ _
     (λ e. (0, omega arith, record { who = x; waits = e; first = rw e; front = refl; here = refl; serial = refl; weights = λ f. omega arith }))
-    (λ e. next_behind m x xs e (first_where (λ x. x.waits) (suc (suc m)) xs) (next-turn (suc m) xs))
+    (λ e. next_behind m x xs e (first_where (λ x. x.waits) (suc (suc m)) xs) (next_turn_lem (suc m) xs))
 
 -- of the lines beside
 
 pub next_beside : (xs : List Known) (ls : List Line) → Beside xs ls → (o : Option ℕ) → next_turn ls ≡ o → Next 0 xs o
-next_beside xs ls g o e = subst (Next 0 xs) (same ∙ e) (next-turn 0 xs)
+next_beside xs ls g o e = subst (Next 0 xs) (same ∙ e) (next_turn_lem 0 xs)
   where
     same : first_where (λ x. x.waits) 1 xs ≡ next_turn ls
     same =

@@ -167,7 +167,7 @@ pub record Examples : Type 0 where
   pub dashes : Dashes
   pub given_back : GivenBack
   pub undone : Undone
-  pub keep-unchosen : KeepUnchosen
+  pub keep_unchosen : KeepUnchosen
   pub full_line : FullLine
   pub marked : Marked
   pub reckoned_in_order : ReckonedInOrder

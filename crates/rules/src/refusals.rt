@@ -1,9 +1,9 @@
 // A refused line leaves everything as it was.
-ghost use Rattle.rules.specs.Refusals.{«RefusalsAlterNothing»};
+ghost use Rattle.rules.specs.Refusals.{RefusalsAlterNothing};
 
 // The law holds of every world and every line.
 pub fn refusals_alter_nothing() -> u8
-    ensures { «RefusalsAlterNothing» }
+    ensures { RefusalsAlterNothing }
 {
     0
 }

@@ -1,11 +1,11 @@
 // Lines that `w` writes come back when `e` reads them.
-ghost use Rattle.rules.specs.RoundTrip.{«LinesComeBack», «FilesComeBack», «RoundTrip»};
+ghost use Rattle.rules.specs.RoundTrip.{LinesComeBack, FilesComeBack, RoundTrip};
 
 // The laws hold of every text, shelf and session.
 pub fn written_lines_come_back() -> u8
-    ensures lines { «LinesComeBack» }
-    ensures files { «FilesComeBack» }
-    ensures trip { «RoundTrip» }
+    ensures lines { LinesComeBack }
+    ensures files { FilesComeBack }
+    ensures trip { RoundTrip }
 {
     0
 }

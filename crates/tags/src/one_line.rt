@@ -23,7 +23,7 @@ fn retag<T: LineStore>(text: &mut T, n: usize, from: Tag, to: Tag)
     requires line { (1 ≤ n) × (n ≤ length (T.LineStore.meaning text.old).lines) }
     requires from { from ≡ (line_at (T.LineStore.meaning text.old) n).tag }
     requires to { to < 2 ^ 27 }
-    ensures { T.LineStore.meaning text.exit.now ≡ with_lines (T.LineStore.meaning text.entry.now) (set (T.LineStore.meaning text.entry.now).lines (n - 1) (record { text = (line_at (T.LineStore.meaning text.entry.now) n).text; tag = to })) }
+    ensures { T.LineStore.meaning text.new ≡ with_lines (T.LineStore.meaning text.old) (set (T.LineStore.meaning text.old).lines (n - 1) (record { text = (line_at (T.LineStore.meaning text.old) n).text; tag = to })) }
 {
     if to != from {
         let _ = text.set_tag(n, to);

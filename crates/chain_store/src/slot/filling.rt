@@ -27,7 +27,7 @@ impl Slot {
     // Writes a line over the slot's. Only the bytes of the text are copied.
     pub fn fill(&mut self, text: &[u8], tag: Tag)
         requires { LineFits (record { text = text.now; tag = tag }) }
-        ensures { line_of self.new ≡ record { text = text.entry.now; tag = tag } }
+        ensures { line_of self.new ≡ record { text = text.now; tag = tag } }
     {
         let size = text.len();
         self.bytes[0..size].copy_from_slice(text);

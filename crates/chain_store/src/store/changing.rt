@@ -14,7 +14,7 @@ impl ChainStore {
         requires place { behind ≤ length (meaning_of self.old).lines }
         requires room { length (meaning_of self.old).lines < (meaning_of self.old).capacity }
         requires line { LineFits (record { text = text.now; tag = tag }) }
-        ensures { meaning_of self.new ≡ with_lines (meaning_of self.old) (inserted (meaning_of self.old).lines behind (record { text = text.entry.now; tag = tag })) }
+        ensures { meaning_of self.new ≡ with_lines (meaning_of self.old) (inserted (meaning_of self.old).lines behind (record { text = text.now; tag = tag })) }
     {
         let place = self.number_at(behind);
         let free = self.links[FREE] as usize - ANCHORS;

@@ -14,7 +14,7 @@ impl GapStore {
     pub(super) fn put_at_gap(&mut self, text: &[u8], tag: Tag)
         requires free { length (meaning_of self.old).lines < (meaning_of self.old).capacity }
         requires fits { LineFits (record { text = text.now; tag = tag }) }
-        ensures { meaning_of self.new ≡ with_lines (meaning_of self.old) (inserted (meaning_of self.old).lines self.old.row_gap.start (record { text = text.entry.now; tag = tag })) }
+        ensures { meaning_of self.new ≡ with_lines (meaning_of self.old) (inserted (meaning_of self.old).lines self.old.row_gap.start (record { text = text.now; tag = tag })) }
     {
         let at = self.row_gap.start;
         let start = self.byte_gap.start;
