@@ -3,5 +3,6 @@
 
 pub mod fault;
 pub mod line;
+pub mod line_of;
 pub mod making;
 pub mod store;

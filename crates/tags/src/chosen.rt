@@ -2,7 +2,8 @@
 ghost use Rattle.std.specs.Prelude.{◌≡◌, suc, ◌<◌, ◌≤◌, length, drop, IfSome};
 ghost use Rattle.rules.specs.Lines.{seen_lines, choosing, unchosen, on_line, first_where};
 
-use crate::one_line::{choose, chosen_at};
+use crate::one_line::{change_all, change_tag, chosen_at};
+use crate::tag::{chosen_as, without_chosen};
 use lines::store::LineStore;
 
 // The first chosen line behind line `behind`.
@@ -10,12 +11,9 @@ pub fn next_chosen<T: LineStore>(text: &T, behind: usize) -> Option<usize>
     ensures value { result ≡ first_where (λ l. l.chosen) (suc behind) (drop behind (seen_lines (T.LineStore.meaning text.now))) }
     ensures within { IfSome result (λ n. (behind < n) × (n ≤ length (T.LineStore.meaning text.now).lines)) }
 {
-    for i in behind..text.count() {
-        if chosen_at(text, i + 1) {
-            return Some(i + 1);
-        }
-    }
-    None
+    (behind..text.count())
+        .find(|i| chosen_at(text, *i + 1))
+        .map(|i| i + 1)
 }
 
 // Line `n` is chosen or not, as told.
@@ -25,7 +23,7 @@ pub fn set_chosen<T: LineStore>(text: &mut T, n: usize, chosen: bool)
     ensures count { length (T.LineStore.meaning text.new).lines ≡ length (T.LineStore.meaning text.old).lines }
     ensures capacity { (T.LineStore.meaning text.new).capacity ≡ (T.LineStore.meaning text.old).capacity }
 {
-    choose(text, n, chosen);
+    change_tag(text, n, &|tag| chosen_as(tag, chosen));
 }
 
 // No line is chosen any more.
@@ -34,7 +32,5 @@ pub fn clear_chosen<T: LineStore>(text: &mut T)
     ensures count { length (T.LineStore.meaning text.new).lines ≡ length (T.LineStore.meaning text.old).lines }
     ensures capacity { (T.LineStore.meaning text.new).capacity ≡ (T.LineStore.meaning text.old).capacity }
 {
-    for i in 0..text.count() {
-        choose(text, i + 1, false);
-    }
+    change_all(text, without_chosen);
 }

@@ -3,7 +3,8 @@ ghost use Rattle.std.specs.Prelude.{◌≡◌, ◌≤◌, false, map, length, If
 ghost use Rattle.rules.specs.Lines.{seen_lines, has_mark, with_mark, first_where, mark_on};
 ghost use Rattle.command.specs.Marks.{bit_of};
 
-use crate::one_line::{bears, give_mark, take_mark};
+use crate::one_line::{bears, change_all, change_tag};
+use crate::tag::{with_mark, without_mark};
 use command::mark::Mark;
 use lines::store::LineStore;
 
@@ -12,12 +13,9 @@ pub fn find_mark<T: LineStore>(text: &T, mark: Mark) -> Option<usize>
     ensures value { result ≡ first_where (has_mark (bit_of mark.letter)) 1 (seen_lines (T.LineStore.meaning text.now)) }
     ensures within { IfSome result (λ n. (1 ≤ n) × (n ≤ length (T.LineStore.meaning text.now).lines)) }
 {
-    for behind in 0..text.count() {
-        if bears(text, behind + 1, mark) {
-            return Some(behind + 1);
-        }
-    }
-    None
+    (0..text.count())
+        .find(|i| bears(text, *i + 1, mark))
+        .map(|i| i + 1)
 }
 
 // Moves a mark to line `n`: no other line has it then.
@@ -27,17 +25,6 @@ pub fn set_mark<T: LineStore>(text: &mut T, n: usize, mark: Mark)
     ensures count { length (T.LineStore.meaning text.new).lines ≡ length (T.LineStore.meaning text.old).lines }
     ensures capacity { (T.LineStore.meaning text.new).capacity ≡ (T.LineStore.meaning text.old).capacity }
 {
-    clear_mark(text, mark);
-    give_mark(text, n, mark);
-}
-
-// Takes a mark from every line.
-fn clear_mark<T: LineStore>(text: &mut T, mark: Mark)
-    ensures lines { seen_lines (T.LineStore.meaning text.new) ≡ map (with_mark (bit_of mark.letter) false) (seen_lines (T.LineStore.meaning text.old)) }
-    ensures count { length (T.LineStore.meaning text.new).lines ≡ length (T.LineStore.meaning text.old).lines }
-    ensures capacity { (T.LineStore.meaning text.new).capacity ≡ (T.LineStore.meaning text.old).capacity }
-{
-    for i in 0..text.count() {
-        take_mark(text, i + 1, mark);
-    }
+    change_all(text, |tag| without_mark(tag, mark));
+    change_tag(text, n, &|tag| with_mark(tag, mark));
 }

@@ -1,41 +1,23 @@
-// The tag of one line of a store, where there is such a line.
-ghost use Rattle.std.specs.Prelude.{◌≡◌, ◌-◌, ◌^◌, ◌<◌, ◌≤◌, true, false, length, set};
-ghost use Rattle.lines.specs.Store.{with_lines, line_at};
-ghost use Rattle.rules.specs.Lines.{seen, seen_lines, has_mark, with_mark, choosing, on_line};
+// The tags of lines: what one says of its line, and changes of one and of all.
+ghost use Rattle.std.specs.Prelude.{◌≡◌, ◌-◌, ◌≤◌, length, map};
+ghost use Rattle.lines.specs.Store.{line_at};
+ghost use Rattle.rules.specs.Lines.{Line, seen, seen_lines, on_line};
 ghost use Rattle.command.specs.Marks.{bit_of};
+ghost use Rattle.tags.specs.Bearing.{bearing};
+ghost use Rattle.tags.specs.Changing.{ChangesTags, Means};
 
-use crate::tag::{chosen_as, has_mark, is_chosen, with_mark, without_mark};
+use crate::tag::{has_mark, is_chosen};
 use command::mark::Mark;
 use lines::line::Tag;
+use lines::line_of::LineOf;
 use lines::store::LineStore;
-
-// The tag of line `n`.
-fn tag_of<T: LineStore>(text: &T, n: usize) -> Tag
-    requires { (1 ≤ n) × (n ≤ length (T.LineStore.meaning text.now).lines) }
-    ensures value { result ≡ (line_at (T.LineStore.meaning text.now) n).tag }
-    ensures defined { result < 2 ^ 27 }
-{
-    text.tag(n).unwrap()
-}
-
-// Gives line `n`, whose tag is `from`, the tag `to`. A store is not bothered where that changes nothing.
-fn retag<T: LineStore>(text: &mut T, n: usize, from: Tag, to: Tag)
-    requires line { (1 ≤ n) × (n ≤ length (T.LineStore.meaning text.old).lines) }
-    requires from { from ≡ (line_at (T.LineStore.meaning text.old) n).tag }
-    requires to { to < 2 ^ 27 }
-    ensures { T.LineStore.meaning text.new ≡ with_lines (T.LineStore.meaning text.old) (set (T.LineStore.meaning text.old).lines (n - 1) (record { text = (line_at (T.LineStore.meaning text.old) n).text; tag = to })) }
-{
-    if to != from {
-        let _ = text.set_tag(n, to);
-    }
-}
 
 // Whether line `n` bears a mark.
 pub(crate) fn bears<T: LineStore>(text: &T, n: usize, mark: Mark) -> bool
     requires { (1 ≤ n) × (n ≤ length (T.LineStore.meaning text.now).lines) }
-    ensures { result ≡ has_mark (bit_of mark.letter) (seen (line_at (T.LineStore.meaning text.now) n)) }
+    ensures { result ≡ bearing (bit_of mark.letter) (T.LineStore.meaning text.now) n }
 {
-    has_mark(tag_of(text, n), mark)
+    has_mark(LineOf { store: text, n }.tag(), mark)
 }
 
 // Whether line `n` is chosen.
@@ -43,38 +25,33 @@ pub(crate) fn chosen_at<T: LineStore>(text: &T, n: usize) -> bool
     requires { (1 ≤ n) × (n ≤ length (T.LineStore.meaning text.now).lines) }
     ensures { result ≡ (seen (line_at (T.LineStore.meaning text.now) n)).chosen }
 {
-    is_chosen(tag_of(text, n))
+    is_chosen(LineOf { store: text, n }.tag())
 }
 
-// Line `n` gets a mark.
-pub(crate) fn give_mark<T: LineStore>(text: &mut T, n: usize, mark: Mark)
-    requires { (1 ≤ n) × (n ≤ length (T.LineStore.meaning text.old).lines) }
-    ensures lines { seen_lines (T.LineStore.meaning text.new) ≡ on_line n (with_mark (bit_of mark.letter) true) (seen_lines (T.LineStore.meaning text.old)) }
+// Line `n` gets the tag that `change` makes of its own. A store is not bothered where that is the same.
+pub(crate) fn change_tag<T: LineStore, F: Fn(Tag) -> Tag>(text: &mut T, n: usize, change: &F)
+    requires line { (1 ≤ n) × (n ≤ length (T.LineStore.meaning text.old).lines) }
+    requires change { ChangesTags (F.pre change.now) (F.post change.now) }
+    ensures lines { (f : Line → Line) → Means (F.post change.now) f → seen_lines (T.LineStore.meaning text.new) ≡ on_line n f (seen_lines (T.LineStore.meaning text.old)) }
     ensures count { length (T.LineStore.meaning text.new).lines ≡ length (T.LineStore.meaning text.old).lines }
     ensures capacity { (T.LineStore.meaning text.new).capacity ≡ (T.LineStore.meaning text.old).capacity }
 {
-    let tag = tag_of(text, n);
-    retag(text, n, tag, with_mark(tag, mark));
+    let tag = LineOf { store: text, n }.tag();
+    let changed = change(tag);
+    if changed != tag {
+        let _ = text.set_tag(n, changed);
+    }
 }
 
-// Line `n` loses a mark.
-pub(crate) fn take_mark<T: LineStore>(text: &mut T, n: usize, mark: Mark)
-    requires { (1 ≤ n) × (n ≤ length (T.LineStore.meaning text.old).lines) }
-    ensures lines { seen_lines (T.LineStore.meaning text.new) ≡ on_line n (with_mark (bit_of mark.letter) false) (seen_lines (T.LineStore.meaning text.old)) }
+// Every line gets the tag that `change` makes of its own.
+pub(crate) fn change_all<T: LineStore, F: Fn(Tag) -> Tag>(text: &mut T, change: F)
+    requires callable { F.IsAlwaysCallable change }
+    requires change { ChangesTags (F.pre change) (F.post change) }
+    ensures lines { (f : Line → Line) → Means (F.post change) f → seen_lines (T.LineStore.meaning text.new) ≡ map f (seen_lines (T.LineStore.meaning text.old)) }
     ensures count { length (T.LineStore.meaning text.new).lines ≡ length (T.LineStore.meaning text.old).lines }
     ensures capacity { (T.LineStore.meaning text.new).capacity ≡ (T.LineStore.meaning text.old).capacity }
 {
-    let tag = tag_of(text, n);
-    retag(text, n, tag, without_mark(tag, mark));
-}
-
-// Line `n` is chosen or not, as told.
-pub(crate) fn choose<T: LineStore>(text: &mut T, n: usize, chosen: bool)
-    requires { (1 ≤ n) × (n ≤ length (T.LineStore.meaning text.old).lines) }
-    ensures lines { seen_lines (T.LineStore.meaning text.new) ≡ on_line n (choosing chosen) (seen_lines (T.LineStore.meaning text.old)) }
-    ensures count { length (T.LineStore.meaning text.new).lines ≡ length (T.LineStore.meaning text.old).lines }
-    ensures capacity { (T.LineStore.meaning text.new).capacity ≡ (T.LineStore.meaning text.old).capacity }
-{
-    let tag = tag_of(text, n);
-    retag(text, n, tag, chosen_as(tag, chosen));
+    for i in 0..text.count() {
+        change_tag(text, i + 1, &change);
+    }
 }

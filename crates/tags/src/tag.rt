@@ -2,6 +2,7 @@
 ghost use Rattle.std.specs.Prelude.{◌≡◌, ℕ, ◌+◌, ◌^◌, ◌<◌, true, false, List};
 ghost use Rattle.rules.specs.Lines.{seen, has_mark, with_mark, choosing};
 ghost use Rattle.command.specs.Marks.{bit_of};
+ghost use Rattle.tags.specs.Changing.{Retags};
 
 use command::mark::Mark;
 use lines::line::{CHOSEN, Tag};
@@ -24,8 +25,7 @@ pub fn with_chosen(tag: Tag) -> Tag
 
 // The tag of a line that is chosen or not, as told.
 pub(crate) fn chosen_as(tag: Tag, chosen: bool) -> Tag
-    ensures seen { (t : List ℕ) → seen (record { text = t; tag = result }) ≡ choosing chosen (seen (record { text = t; tag = tag })) }
-    ensures defined { tag < 2 ^ 27 → result < 2 ^ 27 }
+    ensures { Retags (choosing chosen) tag result }
 {
     if chosen {
         with_chosen(tag)
@@ -50,8 +50,7 @@ pub(crate) fn has_mark(tag: Tag, mark: Mark) -> bool
 
 // The tag of a line that bears a mark.
 pub(crate) fn with_mark(tag: Tag, mark: Mark) -> Tag
-    ensures seen { (t : List ℕ) → seen (record { text = t; tag = result }) ≡ with_mark (bit_of mark.letter) true (seen (record { text = t; tag = tag })) }
-    ensures defined { tag < 2 ^ 27 → result < 2 ^ 27 }
+    ensures { Retags (with_mark (bit_of mark.letter) true) tag result }
 {
     if has_mark(tag, mark) {
         return tag;
@@ -61,8 +60,7 @@ pub(crate) fn with_mark(tag: Tag, mark: Mark) -> Tag
 
 // The tag of a line that does not bear a mark.
 pub(crate) fn without_mark(tag: Tag, mark: Mark) -> Tag
-    ensures seen { (t : List ℕ) → seen (record { text = t; tag = result }) ≡ with_mark (bit_of mark.letter) false (seen (record { text = t; tag = tag })) }
-    ensures defined { tag < 2 ^ 27 → result < 2 ^ 27 }
+    ensures { Retags (with_mark (bit_of mark.letter) false) tag result }
 {
     if has_mark(tag, mark) {
         return tag - only_mark(mark);

@@ -1,27 +1,14 @@
-use Rattle.std.proofs.Common.{sym, ◌∙◌, arith}
-use Rattle.tags.proofs.Finding.{found_here, found_behind, found_none}
+use Rattle.std.proofs.Common.{◌≡◌, true, false, ◌+◌, rules, tests, ◌∙◌}
+use Rattle.std.specs.Option.{option_map}
+use Rattle.std.proofs.lemmas.Iterator.{first_from_Range}
+use Rattle.tags.proofs.Finding.{found_first, passes}
 use Rattle.tags.proofs.chosen.next_chosen.Goals as goal
 
-pub returns-then-chosen_at : goal.returns-then-chosen_at
-returns-then-chosen_at g c = record {
-  value =
-      sym (found_here (λ l. l.chosen) (g.T.LineStore.meaning c.args.text.now) c.loop-i.i (omega arith)
-      (sym c.if-chosen_at.ensures))
-      ∙ c.loop-i.invariant.1;
-  within = (omega arith, omega arith);
-}
-
-pub loop-i-preserved : goal.loop-i-preserved
-loop-i-preserved g c = (
-  omega arith,
-  sym (found_behind (λ l. l.chosen) (g.T.LineStore.meaning c.args.text.now) c.loop-i.i (omega arith)
-      (sym c.if-chosen_at.ensures))
-      ∙ c.loop-i.invariant.1,
-)
-
-pub returns : goal.returns
-returns g c = record {
-  value =
-      sym (found_none (λ l. l.chosen) (g.T.LineStore.meaning c.args.text.now) c.loop-i.i (omega arith)) ∙ c.loop-i.invariant.1;
-  within = tt;
-}
+pub returns-clause-value : goal.returns-clause-value
+returns-clause-value g c =
+    let s = g.T.LineStore.meaning c.args.text.now in
+    let first = first_from_Range _ _ _ _ (λ i. passes (λ l. l.chosen) s i ≡ true) (λ i. passes (λ l. l.chosen) s i ≡ false) c.find.ensures.ran
+    (λ x q k. search (rules, tests))
+    (λ x q k. (search rules, search (rules, tests))) in
+    let up : c.map.result ≡ option_map (λ i. i + 1) c.find.result = search rules in
+    up ∙ found_first (λ l. l.chosen) s c.args.behind c.count.result c.find.result c.count.ensures first

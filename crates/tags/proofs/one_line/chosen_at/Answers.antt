@@ -3,5 +3,5 @@ use Rattle.tags.proofs.one_line.chosen_at.Goals as goal
 
 pub returns : goal.returns
 returns g c =
-    told (g.T.LineStore.meaning c.args.text.now) c.args.n c.tag_of.result c.is_chosen.result (λ l. l.chosen)
-    c.tag_of.ensures.value c.is_chosen.ensures
+    told (g.T.LineStore.meaning c.args.text.now) c.args.n c.tag.result c.is_chosen.result (λ l. l.chosen)
+    c.tag.ensures.value c.is_chosen.ensures
