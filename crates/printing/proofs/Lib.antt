@@ -1,4 +1,3 @@
 pub mod Digits
-pub mod Numbering
 pub mod Ranging
 pub mod Sheets

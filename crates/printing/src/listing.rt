@@ -6,6 +6,7 @@ ghost use Rattle.rules.specs.Printing.{printed};
 ghost use Rattle.printing.specs.Sheets.{written};
 
 use lines::line::LINE_BREAK;
+use lines::line_of::LineOf;
 use lines::store::LineStore;
 use ranges::range::Range;
 
@@ -39,7 +40,7 @@ fn line_size<T: LineStore>(text: &T, n: usize) -> usize
     ensures value { result ≡ length (line_at (T.LineStore.meaning text.now) n).text + 1 }
     ensures bound { result ≤ 256 }
 {
-    text.length(n).unwrap() + 1
+    LineOf { store: text, n }.len() + 1
 }
 
 // Prints line `n` with its break at a place of a sheet that has room for it, and answers the place behind it.
