@@ -3,8 +3,9 @@ ghost use Rattle.std.specs.Prelude.{◌≡◌};
 ghost use Rattle.rules.specs.Lines.{seen_lines, unchosen};
 
 use crate::blocks::empty;
-use crate::single::{copy_line, tag_of};
+use crate::single::copy_line;
 use crate::swapping::{move_tail, swap_front};
+use lines::line_of::LineOf;
 use lines::store::LineStore;
 use tags::tag::without_chosen;
 
@@ -16,8 +17,11 @@ pub fn fill_keep<T: LineStore, K: LineStore>(text: &T, keep: &mut K)
 {
     empty(keep);
     for i in 0..text.count() {
-        let tag = without_chosen(tag_of(text, i + 1));
-        copy_line(text, i + 1, keep, i, tag);
+        let line = LineOf {
+            store: text,
+            n: i + 1,
+        };
+        copy_line(&line, keep, i, without_chosen(line.tag()));
     }
 }
 

@@ -3,8 +3,9 @@ ghost use Rattle.std.specs.Prelude.{◌≡◌, ◌+◌, ◌-◌, ◌≤◌, ◌+
 ghost use Rattle.lines.specs.Store.{line_at, with_lines};
 ghost use Rattle.editing.specs.Shapes.{fronted, with_set};
 
-use crate::single::{copy_with_tag, put_line, read_line, tag_of, take_line};
+use crate::single::{copy_with_tag, put_line, take_line};
 use lines::line::LINE_MAX;
+use lines::line_of::LineOf;
 use lines::store::LineStore;
 
 // Exchanges line `n` of two stores. Neither need have room for a line more.
@@ -15,13 +16,14 @@ fn swap_line<T: LineStore, K: LineStore>(text: &mut T, keep: &mut K, n: usize)
     ensures text { T.LineStore.meaning text.new ≡ with_set (T.LineStore.meaning text.old) n (line_at (K.LineStore.meaning keep.old) n) }
     ensures keep { K.LineStore.meaning keep.new ≡ with_set (K.LineStore.meaning keep.old) n (line_at (T.LineStore.meaning text.old) n) }
 {
-    let mut buffer = [0u8; LINE_MAX];
-    let size = read_line(text, n, &mut buffer);
-    let tag = tag_of(text, n);
+    let mut buffer = [0; LINE_MAX];
+    let line = LineOf { store: text, n };
+    let tag = line.tag();
+    let bytes = line.read(&mut buffer);
     take_line(text, n);
-    copy_with_tag(keep, n, text, n - 1);
+    copy_with_tag(&LineOf { store: keep, n }, text, n - 1);
     take_line(keep, n);
-    put_line(keep, n - 1, &buffer[0..size], tag);
+    put_line(keep, n - 1, bytes, tag);
 }
 
 // Exchanges the first `n` lines of two stores.
@@ -46,7 +48,11 @@ pub(crate) fn move_tail<T: LineStore, K: LineStore>(from: &mut T, at: usize, to:
     let n = from.count();
     let m = to.count();
     for i in at..n {
-        copy_with_tag(from, at + 1, to, m + (i - at));
+        let line = LineOf {
+            store: from,
+            n: at + 1,
+        };
+        copy_with_tag(&line, to, m + (i - at));
         take_line(from, at + 1);
     }
 }

@@ -2,7 +2,7 @@
 ghost use Rattle.std.specs.Prelude.{◌≡◌, ◌^◌, ◌<◌, ◌≤◌, length};
 ghost use Rattle.lines.specs.Store.{line_at};
 
-use crate::line::{LINE_MAX, Tag};
+use crate::line::{LINE_MAX, LineText, Tag};
 use crate::store::LineStore;
 
 // A line that is there: a store, and the number of one of its lines. So nothing that it is asked is refused.
@@ -31,10 +31,12 @@ impl<'a, T: LineStore> LineOf<'a, T> {
     }
 
     // Its text, copied to the front of a buffer.
-    pub fn read<'b>(&self, buffer: &'b mut [u8; LINE_MAX]) -> &'b [u8]
-        ensures { result.now ≡ (line_at (T.meaning self.now.store.now) self.now.n).text }
+    pub fn read<'b>(&self, buffer: &'b mut [u8; LINE_MAX]) -> LineText<'b>
+        ensures { result.bytes.now ≡ (line_at (T.meaning self.now.store.now) self.now.n).text }
     {
         let size = self.store.copy(self.n, buffer).unwrap();
-        &buffer[0..size]
+        LineText {
+            bytes: &buffer[0..size],
+        }
     }
 }

@@ -8,8 +8,8 @@ pub loop-i-preserved : goal.loop-i-preserved
 loop-i-preserved g c =
     let t = g.T.LineStore.meaning c.args.text.now in
     let here = line_at t (c.loop-i.i + 1) in
-    let same = unchosen-line here _ _ c.tag_of.ensures.value c.without_chosen-tag.ensures.seen in
-    let l : Line = record { text = here.text; tag = c.without_chosen-tag.result } in
+    let same = unchosen-line here _ _ c.tag.ensures.value c.without_chosen.ensures.seen in
+    let l : Line = record { text = here.text; tag = c.without_chosen.result } in
     let le : c.loop-i.i < length t.lines = omega arith in
     filled _ t _ _ c.loop-i.i l le c.copy_line.ensures same c.loop-i.invariant
 
