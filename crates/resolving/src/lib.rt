@@ -3,3 +3,4 @@
 
 pub mod addresses;
 pub mod lookup;
+pub mod page;

@@ -4,40 +4,22 @@ ghost use Rattle.lines.specs.Store.{line_at};
 ghost use Rattle.patterns.specs.View.{meaning as pattern_meaning};
 ghost use Rattle.rules.specs.Addresses.{next_match, slashed};
 ghost use Rattle.rules.specs.Lines.{page, seen, seen_lines, first_where};
-ghost use Rattle.matching.specs.Matching.{match_from};
-ghost use Rattle.rules.specs.Patterns.{is_there};
 ghost use Rattle.resolving.specs.Lookup.{fits};
 
+use crate::page::Page;
 use lines::line::LINE_MAX;
+use lines::line_of::LineOf;
 use lines::store::LineStore;
 use matching::find;
 use patterns::Pattern;
 
-// Whether line `n` has a match.
-pub fn line_matches<T: LineStore>(text: &T, n: usize, pattern: &Pattern) -> bool
-    requires { (1 ≤ n) × (n ≤ length (T.LineStore.meaning text.now).lines) }
-    ensures { result ≡ fits (pattern_meaning pattern.now) (seen (line_at (T.LineStore.meaning text.now) n)) }
+// Whether a line has a match.
+pub fn line_matches<T: LineStore>(line: &LineOf<'_, T>, pattern: &Pattern) -> bool
+    ensures { result ≡ fits (pattern_meaning pattern.now) (seen (line_at (T.LineStore.meaning line.now.store.now) line.now.n)) }
 {
-    let mut buffer = [0u8; LINE_MAX];
-    let size = copy_text(text, n, &mut buffer);
-    has_match(pattern, &buffer[0..size])
-}
-
-// Copies the text of line `n`, which is there, and answers its length.
-fn copy_text<T: LineStore>(text: &T, n: usize, buffer: &mut [u8]) -> usize
-    requires present { (1 ≤ n) × (n ≤ length (T.LineStore.meaning text.now).lines) }
-    requires room { 255 ≤ length buffer.old }
-    ensures size { (result ≡ length (line_at (T.LineStore.meaning text.now) n).text) × (result ≤ 255) }
-    ensures copied { take result buffer.new ≡ (line_at (T.LineStore.meaning text.now) n).text }
-{
-    text.copy(n, buffer).unwrap()
-}
-
-fn has_match(pattern: &Pattern, line: &[u8]) -> bool
-    requires { length line.now ≤ 255 }
-    ensures { result ≡ is_there (match_from (pattern_meaning pattern.now) line.now 0) }
-{
-    matches!(find(pattern, line, 0), Ok(Some(_)))
+    let mut buffer = [0; LINE_MAX];
+    let text = line.read(&mut buffer);
+    matches!(find(pattern, text.bytes, 0), Ok(Some(_)))
 }
 
 // The first line behind line `from`, up to line `to`, that has a match.
@@ -51,25 +33,36 @@ pub fn find_match<T: LineStore>(
     ensures value { result ≡ first_where (fits (pattern_meaning pattern.now)) (suc from) (drop from (take to (seen_lines (T.LineStore.meaning text.now)))) }
     ensures within { IfSome result (λ n. n ≤ to) }
 {
-    for n in from..to {
-        if line_matches(text, n + 1, pattern) {
-            return Some(n + 1);
-        }
-    }
-    None
+    (from..to)
+        .find(
+            |i: &usize| -> bool
+                requires { i.now < length (T.LineStore.meaning text.now).lines }
+            {
+                line_matches(
+                    &LineOf {
+                        store: text,
+                        n: *i + 1,
+                    },
+                    pattern,
+                )
+            },
+        )
+        .map(|i| i + 1)
 }
 
-// The next line that matches a pattern between two `/`: behind the current one, then round from the first, the current one last.
-pub fn next_match<T: LineStore>(text: &T, current: usize, part: &[u8]) -> Option<usize>
-    requires { current ≤ length (T.LineStore.meaning text.now).lines }
-    ensures value { result ≡ next_match (page (seen_lines (T.LineStore.meaning text.now)) current) (slashed part.now) }
-    ensures within { IfSome result (λ n. n ≤ length (T.LineStore.meaning text.now).lines) }
-{
-    let Ok(pattern) = Pattern::read(b'/', part) else {
-        return None;
-    };
-    match find_match(text, &pattern, current, text.count()) {
-        Some(n) => Some(n),
-        None => find_match(text, &pattern, 0, current),
+impl<'a, T: LineStore> Page<'a, T> {
+    // The next line that matches a pattern between two `/`: behind the current one, then round from the first, the current one last.
+    pub fn next_match(&self, part: &[u8]) -> Option<usize>
+        ensures value { result ≡ next_match (page (seen_lines (T.LineStore.meaning self.now.text.now)) self.now.current) (slashed part.now) }
+        ensures within { IfSome result (λ n. n ≤ length (T.LineStore.meaning self.now.text.now).lines) }
+    {
+        let Ok(pattern) = Pattern::read(b'/', part) else {
+            return None;
+        };
+        // `or_else` was tried: of its closure, which calls a generic function, the check learns nothing.
+        match find_match(self.text, &pattern, self.current, self.text.count()) {
+            Some(n) => Some(n),
+            None => find_match(self.text, &pattern, 0, self.current),
+        }
     }
 }
