@@ -5,12 +5,11 @@ ghost use Rattle.command.specs.View.{chooser_view};
 ghost use Rattle.ranges.specs.Spans.{span_or, RangesOver};
 ghost use Rattle.rules.specs.Globals.{wanted, choice, chosen_in};
 ghost use Rattle.rules.specs.Lines.{seen_lines, choosing, on_line};
-ghost use Rattle.choosing.specs.Sought.{ReadFor};
 
-use crate::wanting::{Reading, is_wanted, sought_by};
+use crate::wanting::Choice;
 use command::said::Chooser;
+use lines::line_of::LineOf;
 use lines::store::LineStore;
-use patterns::Pattern;
 use ranges::range::Range;
 use tags::chosen::set_chosen;
 
@@ -23,27 +22,10 @@ pub fn choose<T: LineStore>(text: &mut T, range: Option<Range>, chooser: Chooser
     ensures capacity { (T.LineStore.meaning text.new).capacity ≡ (T.LineStore.meaning text.old).capacity }
     ensures size { length (T.LineStore.meaning text.new).lines ≡ length (T.LineStore.meaning text.old).lines }
 {
-    let sought = sought_by(chooser);
-    let reading = Pattern::read(sought.delimiter, sought.part);
-    choose_lines(text, range, chooser, &reading)
-}
-
-// The same with the pattern, which was read once.
-fn choose_lines<T: LineStore>(
-    text: &mut T,
-    range: Option<Range>,
-    chooser: Chooser<'_>,
-    reading: &Reading,
-) -> usize
-    requires { ReadFor reading.now chooser }
-    ensures lines { seen_lines (T.LineStore.meaning text.new) ≡ choice (wanted (chooser_view chooser.entry) (span_or range)) 1 (seen_lines (T.LineStore.meaning text.old)) }
-    ensures count { result ≡ chosen_in (seen_lines (T.LineStore.meaning text.new)) }
-    ensures capacity { (T.LineStore.meaning text.new).capacity ≡ (T.LineStore.meaning text.old).capacity }
-    ensures size { length (T.LineStore.meaning text.new).lines ≡ length (T.LineStore.meaning text.old).lines }
-{
+    let wanting = Choice::new(range, chooser);
     let mut chosen = 0;
     for i in 0..text.count() {
-        if choose_line(text, i + 1, range, chooser, reading) {
+        if choose_line(text, i + 1, &wanting) {
             chosen += 1;
         }
     }
@@ -51,21 +33,14 @@ fn choose_lines<T: LineStore>(
 }
 
 // Line `n` is chosen if it is wanted, and else it is not; answers which.
-fn choose_line<T: LineStore>(
-    text: &mut T,
-    n: usize,
-    range: Option<Range>,
-    chooser: Chooser<'_>,
-    reading: &Reading,
-) -> bool
-    requires present { (1 ≤ n) × (n ≤ length (T.LineStore.meaning text.old).lines) }
-    requires reading { ReadFor reading.now chooser }
-    ensures value { result ≡ wanted (chooser_view chooser.entry) (span_or range) n (line_at (T.LineStore.meaning text.old) n).text }
+fn choose_line<T: LineStore>(text: &mut T, n: usize, choice: &Choice<'_>) -> bool
+    requires { (1 ≤ n) × (n ≤ length (T.LineStore.meaning text.old).lines) }
+    ensures value { result ≡ wanted (chooser_view choice.now.chooser) (span_or choice.now.range) n (line_at (T.LineStore.meaning text.old) n).text }
     ensures lines { seen_lines (T.LineStore.meaning text.new) ≡ on_line n (choosing result) (seen_lines (T.LineStore.meaning text.old)) }
     ensures capacity { (T.LineStore.meaning text.new).capacity ≡ (T.LineStore.meaning text.old).capacity }
     ensures size { length (T.LineStore.meaning text.new).lines ≡ length (T.LineStore.meaning text.old).lines }
 {
-    let wanted = is_wanted(text, n, range, chooser, reading);
+    let wanted = choice.wants(&LineOf { store: text, n });
     set_chosen(text, n, wanted);
     wanted
 }
