@@ -12,8 +12,8 @@ use Rattle.rules.specs.Lines.{Line, seen, seen_lines, created}
 use Rattle.editing.specs.Shapes.{with_line}
 use Rattle.filing.specs.declared.count.Count.{Count}
 use Rattle.filing.specs.Contents.{file_in}
-use Rattle.filing.specs.Counting.{counted, line_length, first_line}
-use Rattle.filing.proofs.Splitting.{counted_more, split_first, first-within, first_in_front, first_fits}
+use Rattle.filing.specs.Counting.{counted, uncounted, line_length, first_line}
+use Rattle.filing.proofs.Splitting.{counted-bounds, counted_more, split_first, first-within, first_in_front, first_fits}
 
 -- a file is no longer than a shelf may be
 pub file-bounded : (s : Shelf) (i : ℕ) → Sound s → present s i ≡ true → length (file_in s i) ≤ 1048576
@@ -21,33 +21,39 @@ file-bounded s i sound here =
     let one = get_or-le-sum_by (λ (f : File). length f.contents) s.files i no_file (ltb-true i (length s.files) here) in
     omega arith
 
+-- so it has no more lines than that
+pub ended-bounded : (s : Shelf) (i : ℕ) (c : Count) → Sound s → present s i ≡ true → c ≡ counted uncounted (file_in s i) → c.ended ≤ 1048576
+ended-bounded s i c sound here is =
+    let bound = file-bounded s i sound here in
+    let ended = ap (λ (x : Count). x.ended) is in
+    omega (arith, counted-bounds uncounted (file_in s i))
+
 -- a chunk counted, and then what stands behind it
 pub counted_chunk : (c : Count) (p : ℕ) (bs : List ℕ) → counted (counted c (take 256 (drop p bs))) (drop (p + 256) bs) ≡ counted c (drop p bs)
 counted_chunk c p bs =
     ap (counted (counted c (take 256 (drop p bs)))) (sym (drop-drop 256 p bs))
     ∙ (sym (counted_more c (take 256 (drop p bs)) (drop 256 (drop p bs))) ∙ ap (counted c) (take-append-drop 256 (drop p bs)))
 
--- a line found in a buffer with a chunk at its start
-pub record LineRead (bs buffer : List ℕ) (size len : ℕ) : Type 0 where
+-- a line found at the start of a chunk
+pub record LineRead (bs chunk : List ℕ) (len : ℕ) : Type 0 where
   pub is : len ≡ line_length bs
-  pub within : len ≤ size
-  pub bytes : take (len - 0) buffer ≡ first_line bs
+  pub within : len ≤ length chunk
+  pub bytes : take (len - 0) chunk ≡ first_line bs
 
-pub line_read : (bs buffer : List ℕ) (size len : ℕ) → line_length bs ≤ 255 → size ≡ length (take 256 bs) → take size buffer ≡ take 256 bs
-    → len ≡ line_length (take (size - 0) buffer) → LineRead bs buffer size len
-line_read bs buffer size len short sized same found =
-    let all : size - 0 ≡ size = omega arith in
+pub line_read : (bs chunk : List ℕ) (len : ℕ) → line_length bs ≤ 255 → chunk ≡ take 256 bs → len ≡ line_length chunk → LineRead bs chunk len
+line_read bs chunk len short same found =
     let front = first_in_front 256 bs (omega arith) in
-    let is : len ≡ line_length bs = found ∙ (ap (λ n. line_length (take n buffer)) all ∙ (ap line_length same ∙ front)) in
+    let is : len ≡ line_length bs = found ∙ (ap line_length same ∙ front) in
     let inside = first-within (take 256 bs) in
-    let within : len ≤ size = omega arith in
+    let long = ap length same in
+    let again = ap line_length same in
+    let within : len ≤ length chunk = omega arith in
     let none : len - 0 ≡ len = omega arith in
     let below : len ≤ 256 = omega arith in
     record {
       is = is;
       within = within;
-      bytes = ap (λ n. take n buffer) none
-          ∙ (sym (take-take len size buffer within) ∙ (ap (take len) same ∙ (take-take len 256 bs below ∙ ap (λ n. take n bs) is)));
+      bytes = ap (λ n. take n chunk) none ∙ (ap (take len) same ∙ (take-take len 256 bs below ∙ ap (λ n. take n bs) is));
     }
 
 -- a line put behind the last

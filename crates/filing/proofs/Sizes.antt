@@ -1,6 +1,8 @@
 -- How long the lines of a store can be as a file.
-use Rattle.std.proofs.Common.{ℕ, zero, suc, ◌-◌, ◌*◌, ◌≤◌, List, [], ◌∷◌, ◌++◌, map, length, get_or, take, drop, arith}
+use Rattle.std.proofs.Common.{Option, None, Some, ℕ, zero, suc, ◌-◌, ◌*◌, ◌≤◌, List, [], ◌∷◌, ◌++◌, map, length, get_or, take, drop, arith}
 use Rattle.std.proofs.lemmas.List.{length-append, length_push}
+use Rattle.ranges.specs.declared.range.Range.{Range}
+use Rattle.filing.specs.Contents.{contents_from}
 use Rattle.lines.specs.Line as stored
 use Rattle.lines.specs.Store.{Store, Sound}
 use Rattle.lines.proofs.Fitting.{each_at}
@@ -35,3 +37,7 @@ printed-bounded s f l sound =
     let rest = printed-drop (f - 1) (seen_lines s) in
     let all = printed_all s.lines (λ k. (each_at s.lines sound.each k).0) in
     omega arith
+
+pub contents-bounded : (r : Option Range) (s : Store) → Sound s → length (contents_from r s) ≤ 1048576
+contents-bounded None s sound = printed-bounded s 1 0 sound
+contents-bounded (Some x) s sound = printed-bounded s x.first x.last sound

@@ -1,7 +1,7 @@
 -- The lines of bytes: the first, those behind it, and how many there are.
-use Rattle.std.proofs.Common.{◌≡◌, ℕ, zero, suc, ◌+◌, ◌<◌, ◌≤◌, Bool, true, false, cond, not, ◌&&◌, eqb, ltb, leb, List, [], ◌∷◌, ◌++◌, length, take, drop, sym, refl, ap, ◌∙◌, subst, ⊎_elim, arith}
+use Rattle.std.proofs.Common.{add-one, ◌≡◌, ℕ, zero, suc, ◌+◌, ◌<◌, ◌≤◌, Bool, true, false, cond, not, ◌&&◌, eqb, ltb, leb, List, [], ◌∷◌, ◌++◌, length, take, drop, sym, refl, ap, ◌∙◌, subst, ⊎_elim, arith}
 use Rattle.std.proofs.lemmas.List.{append-nil, append_assoc, length_push, length-take-le}
-use Rattle.std.proofs.lemmas.Bool.{cases_Bool, or_parts, or_from, and_parts, not-true, leb-true, lt-ltb}
+use Rattle.std.proofs.lemmas.Bool.{ne_eqb, eq-eqb, cases_Bool, or_parts, or_from, and_parts, not-true, leb-true, lt-ltb}
 use Rattle.lines.specs.Line.{holds_break, fitting, all_fit}
 use Rattle.rules.specs.Doing.{short}
 use Rattle.rules.specs.Files.{on_first, split}
@@ -229,3 +229,10 @@ counted-lines bs = (counted-split uncounted [] bs refl refl).0 ∙ (let e : 0 + 
 
 pub counted_fits : (bs : List ℕ) → fits_of (counted uncounted bs) ≡ all_fit (split bs)
 counted_fits bs = (counted-split uncounted [] bs refl refl).1
+
+-- a break ends the first line, and any other byte makes it longer
+pub length_hit : (b : ℕ) (bs : List ℕ) → b ≡ 10 → line_length (b ∷ bs) ≡ 0
+length_hit b bs e = ap (λ (t : Bool). cond t 0 (suc (line_length bs))) (eq-eqb b 10 e)
+
+pub length_miss : (b : ℕ) (bs : List ℕ) → (b ≡ 10 → ⊥) → line_length (b ∷ bs) ≡ line_length bs + 1
+length_miss b bs e = ap (λ (t : Bool). cond t 0 (suc (line_length bs))) (ne_eqb b 10 e) ∙ sym (add-one (line_length bs))

@@ -2,7 +2,6 @@
 #![tactic(auto)]
 
 mod count;
-mod counting;
 pub mod fault;
 pub mod reading_files;
 pub mod writing;

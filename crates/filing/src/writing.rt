@@ -9,6 +9,7 @@ ghost use Rattle.filing.specs.Contents.{contents_from, answer_of, shelf_after};
 use crate::fault::shelf_fault;
 use command::fault::Fault;
 use lines::line::{LINE_BREAK, LINE_MAX};
+use lines::line_of::LineOf;
 use lines::store::LineStore;
 use printing::listing::printed_size;
 use ranges::range::Range;
@@ -23,10 +24,7 @@ pub fn file_size<T: LineStore>(text: &T, range: Option<Range>) -> usize
     ensures value { result ≡ length (contents_from range (T.LineStore.meaning text.now)) }
     ensures bounded { result ≤ 1048576 }
 {
-    match range {
-        Some(lines) => printed_size(text, lines),
-        None => 0,
-    }
+    range.map_or(0, |lines| printed_size(text, lines))
 }
 
 // Writes a range of the text as the whole contents of the file of a name. `size` is how many bytes that will be.
@@ -69,28 +67,29 @@ fn add_lines<T: LineStore, S: Shelf>(text: &T, range: Range, shelf: &mut S, file
     ensures { S.Shelf.meaning shelf.new ≡ add_after (S.Shelf.meaning shelf.old) file (contents_from (Some range) (T.LineStore.meaning text.now)) }
 {
     for i in range.first - 1..range.last {
-        add_line(text, i + 1, shelf, file);
+        add_line(
+            &LineOf {
+                store: text,
+                n: i + 1,
+            },
+            shelf,
+            file,
+        );
     }
 }
 
-// Adds line `n` with its break to a file.
-fn add_line<T: LineStore, S: Shelf>(text: &T, n: usize, shelf: &mut S, file: usize)
-    requires { (1 ≤ n) × (n ≤ length (T.LineStore.meaning text.now).lines) }
-    ensures { S.Shelf.meaning shelf.new ≡ add_after (S.Shelf.meaning shelf.old) file ((line_at (T.LineStore.meaning text.now) n).text ++ (10 ∷ [])) }
+// Adds a line with its break to a file.
+fn add_line<T: LineStore, S: Shelf>(line: &LineOf<'_, T>, shelf: &mut S, file: usize)
+    ensures { S.Shelf.meaning shelf.new ≡ add_after (S.Shelf.meaning shelf.old) file ((line_at (T.LineStore.meaning line.now.store.now) line.now.n).text ++ (10 ∷ [])) }
 {
-    let mut row = [0u8; ROW];
-    let size = copy_row(text, n, &mut row);
-    let _ = shelf.add(file, &row[0..size]);
+    let _ = shelf.add(file, row(line, &mut [0; ROW]));
 }
 
-// Copies line `n` with its break to the start of `row`, and answers how many bytes that is.
-fn copy_row<T: LineStore>(text: &T, n: usize, row: &mut [u8]) -> usize
-    requires here { (1 ≤ n) × (n ≤ length (T.LineStore.meaning text.now).lines) }
-    requires space { length row.old ≡ 256 }
-    ensures short { result ≤ 256 }
-    ensures bytes { take result row.new ≡ (line_at (T.LineStore.meaning text.now) n).text ++ (10 ∷ []) }
+// A line with its break, copied to a buffer.
+fn row<'b, T: LineStore>(line: &LineOf<'_, T>, buffer: &'b mut [u8; ROW]) -> &'b [u8]
+    ensures { result.now ≡ (line_at (T.LineStore.meaning line.now.store.now) line.now.n).text ++ (10 ∷ []) }
 {
-    let size = text.copy(n, row).unwrap();
-    row[size] = LINE_BREAK;
-    size + 1
+    let size = line.store.copy(line.n, buffer).unwrap();
+    buffer[size] = LINE_BREAK;
+    &buffer[0..size + 1]
 }

@@ -2,6 +2,7 @@
 #![tactic(auto)]
 
 pub mod fault;
+pub mod file_of;
 pub mod interface;
 pub mod label;
 pub mod name;

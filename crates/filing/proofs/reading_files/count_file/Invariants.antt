@@ -1,4 +1,4 @@
-use Rattle.std.proofs.Common.{◌≡◌, ◌-◌, ◌≤◌, drop}
+use Rattle.std.proofs.Common.{◌≡◌, ◌≤◌, drop}
 use Rattle.filing.specs.Contents.{file_in}
 use Rattle.filing.specs.Counting.{counted, uncounted}
 use Rattle.filing.proofs.reading_files.count_file.Given as goal
@@ -6,10 +6,7 @@ use Rattle.filing.proofs.reading_files.count_file.Given as goal
 -- what is left is counted on
 abbrev pub invariant-loop-place : goal.invariant-loop-place
 invariant-loop-place g l =
-    let bytes = file_in (g.S.Shelf.meaning l.shelf) l.file in
+    let bytes = file_in (g.S.Shelf.meaning l.file.shelf.now) l.file.file in
     (counted l.count (drop l.place bytes) ≡ counted uncounted bytes)
     × (l.count.ended ≤ l.place)
     × (l.count.pending ≤ l.place)
-
-abbrev pub decreases-loop-place : goal.decreases-loop-place
-decreases-loop-place g l = l.size - l.place

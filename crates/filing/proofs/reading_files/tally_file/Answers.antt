@@ -6,8 +6,8 @@ use Rattle.filing.proofs.reading_files.tally_file.Goals as goal
 
 pub returns : goal.returns
 returns g c =
-    let bytes = file_in (g.S.Shelf.meaning c.args.shelf.now) c.args.file in
+    let bytes = file_in (g.S.Shelf.meaning c.args.file.now.shelf.now) c.args.file.now.file in
     record {
-      lines = c.lines_counted.ensures ∙ (ap lines_of c.count_file-count.ensures.value ∙ counted-lines bytes);
+      lines = c.lines.ensures ∙ (ap lines_of c.count_file-count.ensures.value ∙ counted-lines bytes);
       fits = c.all_fit.ensures ∙ (ap fits_of c.count_file-count.ensures.value ∙ counted_fits bytes);
     }

@@ -1,9 +1,11 @@
-use Rattle.std.proofs.Common.{rules}
-use Rattle.filing.proofs.Sizes.{printed-bounded}
+use Rattle.std.proofs.Common.{◌≡◌, length, arith, rules}
+use Rattle.filing.specs.Contents.{contents_from}
+use Rattle.filing.proofs.Sizes.{contents-bounded}
 use Rattle.filing.proofs.writing.file_size.Goals as goal
 
-pub returns-in-Some : goal.returns-in-Some
-returns-in-Some g c =
-    let bound = printed-bounded (g.T.LineStore.meaning c.args.text.now) c.in-Some.lines.first c.in-Some.lines.last
-    (g.met.T.LineStore.sound c.args.text.now) in
-    search rules
+pub returns-clause-bounded : goal.returns-clause-bounded
+returns-clause-bounded g c =
+    let s = g.T.LineStore.meaning c.args.text.now in
+    let value : c.map_or.result ≡ length (contents_from c.args.range s) = search rules in
+    let bound = contents-bounded c.args.range s (g.met.T.LineStore.sound c.args.text.now) in
+    omega arith

@@ -1,6 +1,6 @@
 use Rattle.std.proofs.Common.{◌≡◌, ◌+◌, ◌≤◌, drop}
 use Rattle.filing.specs.Counting.{counted}
-use Rattle.filing.proofs.counting.count_bytes.Given as goal
+use Rattle.filing.proofs.count.Count.with_bytes.Given as goal
 
 -- what is left is counted on
 abbrev pub invariant-loop-b : goal.invariant-loop-b
