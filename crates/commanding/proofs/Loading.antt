@@ -1,18 +1,14 @@
 -- A file read in: what its checks make sure of, the name that is remembered, and what `e` comes to step by step.
-use Rattle.std.proofs.Common.{◌≡◌, ℕ, ◌≤◌, Bool, true, false, not, ◌&&◌, ◌||◌, leb, List, [], ◌++◌, map, length, take, drop, Some, None, Ok, Err, Option, sym, refl, ap, ◌∙◌, subst, zero-add, arith, MatchOption}
-use Rattle.std.proofs.lemmas.Bool.{leb-true, lt-ltb}
-use Rattle.std.specs.Option.{option_map}
-use Rattle.shelf.specs.declared.label.Label.{Label}
+use Rattle.std.proofs.Common.{◌≡◌, ℕ, Bool, true, false, not, ◌&&◌, ◌||◌, leb, List, [], length, Some, None, Ok, Err, Option, refl, ap, ◌∙◌, subst}
+use Rattle.std.proofs.lemmas.Bool.{lt-ltb}
 use Rattle.shelf.specs.Label.{is_label}
 use Rattle.shelf.specs.Name.{is_name, all_graphic}
 use Rattle.shelf.specs.Shelf.{Shelf, Sound, present, lookup_answer}
-use Rattle.shelf.specs.Text.{text_of}
 use Rattle.shelf.proofs.Lookup.{found_name}
 use Rattle.command.specs.declared.fault.Fault.TheVariants.{Unsaved, FileNotFound, TooManyLines, LineTooLong, SheetFull}
 use Rattle.command.specs.Said.{FileName}
 use Rattle.reading.specs.Read.{Read, ◌>>=◌}
 use Rattle.filing.specs.Contents.{file_in}
-use Rattle.printing.specs.Sheets.{written}
 use Rattle.rules.specs.Checks.{◌>>◌, check, or_fault}
 use Rattle.rules.specs.Commands.{Outcome, reading, accepted, or_refusal, loaded, edited}
 use Rattle.lines.specs.Line.{all_fit}
@@ -20,7 +16,6 @@ use Rattle.rules.specs.Effects.{name_of}
 use Rattle.rules.specs.Doing.{short}
 use Rattle.filing.proofs.Splitting.{short_split}
 use Rattle.rules.specs.Files.{contents_of, contents_by, split}
-use Rattle.rules.specs.Lines.{Line, page, created}
 use Rattle.rules.specs.Printing.{numbered}
 use Rattle.rules.specs.World.{World}
 use Rattle.commanding.specs.Editing.{readable, read_as, read_named}
@@ -40,46 +35,6 @@ file_label s n i sound e =
     let found = found_name s n i e in
     let good : is_name n ≡ true = subst (λ (m : List ℕ). is_name m ≡ true) found.1 (sound.named i found.0) in
     front_true (is_label n) (all_graphic n) good
-
-pub label_text : (n : List ℕ) (o : Option Label) → is_label n ≡ true
-    → MatchOption o (is_label n ≡ false) (λ l. (is_label n ≡ true) × (take l.len l.bytes ≡ n)) → option_map text_of o ≡ Some n
-label_text n None good h = let z : ◌≡◌ {A = Bool} true false = sym good ∙ h in let y : ◌≡◌ {A = ℕ} 0 1 = cc in absurd (omega arith)
-label_text n (Some l) good h = ap Some h.1
-
--- the checks of its contents
-
-pub record Readable (capacity : ℕ) (c : List ℕ) : Type 0 where
-  pub few : length (split c) ≤ capacity
-  pub fits : all_fit (split c) ≡ true
-
-checks_passed : (a b d : Bool) (m n : ℕ) → (check a TooManyLines >> (check b LineTooLong >> (check d SheetFull >> Ok m))) ≡ Ok n → (a ≡ true) × (b ≡ true)
-checks_passed true true d m n e = (refl, refl)
-checks_passed true false d m n e = let z : ◌≡◌ {A = ℕ} 0 1 = cc in absurd (omega arith)
-checks_passed false b d m n e = let z : ◌≡◌ {A = ℕ} 0 1 = cc in absurd (omega arith)
-
-pub readable_parts : (capacity room : ℕ) (c : List ℕ) (n : ℕ) → readable capacity room c ≡ Ok n → Readable capacity c
-readable_parts capacity room c n e =
-    let p = checks_passed (leb (length (split c)) capacity) (all_fit (split c)) (leb (length (numbered (length c))) room) (length c) n e in
-    record { few = leb-true (length (split c)) capacity p.0; fits = p.1 }
-
--- what is read in and printed
-
-pub loaded_is : (w : World) (f c : List ℕ) (ls ks : List Line) (n : ℕ) (o : Option (List ℕ)) → ls ≡ map created (split c) → ks ≡ [] → n ≡ length (split c) → o ≡ Some f
-    → ◌≡◌ {A = World} (record {
-      mode = w.mode;
-      text = page ls n;
-      keep = page ks 0;
-      capacity = w.capacity;
-      shelf = w.shelf;
-      name = o;
-      undoable = false;
-      unsaved = false;
-      warned = w.warned;
-    }) (loaded w f c)
-loaded_is w f c ls ks n o a b d e = rw (a, b, d, e) refl
-
-pub written_first : (s out : List ℕ) → written s 0 out ≡ out ++ drop (length out) s
-written_first s out = ap (λ (n : ℕ). out ++ drop n s) (zero-add (length out))
 
 -- `e`, step by step
 

@@ -5,10 +5,9 @@ use Rattle.std.proofs.lemmas.List.{take-map, drop-map}
 use Rattle.std.specs.Str.{bytes_eq}
 use Rattle.lines.specs.Line as stored
 use Rattle.lines.specs.Store.{Store, inserted}
-use Rattle.command.specs.declared.fault.Fault.TheVariants as fault
 use Rattle.editing.specs.Shapes.{with_line}
 use Rattle.editing.proofs.Placing.{placed-append, placed_front, placed_back}
-use Rattle.rules.specs.Commands.{putting, accepted, refusal}
+use Rattle.rules.specs.Commands.{putting, accepted}
 use Rattle.rules.specs.Doing.{kept_if}
 use Rattle.rules.specs.Giving.{typed, typed_in}
 use Rattle.rules.specs.Lines.{Page, page, seen, seen_lines, created, unchosen}
@@ -33,9 +32,6 @@ kept_typed true g p m w = refl
 kept_typed false g p m w = refl
 
 module _ (w : World) (before : ℕ) (any : Bool) (line : List ℕ) (text : bytes_eq line (46 ∷ []) ≡ false) where
-  pub typed_full : ltb (length w.text.lines) w.capacity ≡ false → typed w before any line ≡ refusal w fault.TextFull
-  typed_full h = cc (text, h)
-
   pub typed_put : ltb (length w.text.lines) w.capacity ≡ true
       → typed w before any line ≡ accepted putting (with_mode (typing before true) (with_unsaved true (with_text (typed_in w.text line) (kept_if (not any) (page (unchosen w.text.lines) before) w)))) []
   typed_put h =

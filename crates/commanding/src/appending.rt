@@ -1,7 +1,6 @@
 // `a`, and the lines typed behind it.
-ghost use Rattle.std.specs.Prelude.{◌≡◌, ◌<◌, ◌≤◌, false, not, [], ◌∷◌, length};
+ghost use Rattle.std.specs.Prelude.{◌≡◌, ◌<◌, ◌≤◌, true, false, [], ◌∷◌, length};
 ghost use Rattle.std.specs.Str.{bytes_eq};
-ghost use Rattle.lines.specs.Line.{holds_break};
 ghost use Rattle.lines.specs.Store.{Store};
 ghost use Rattle.shelf.specs.Shelf.{Shelf};
 ghost use Rattle.command.specs.View.{addresses_view};
@@ -10,21 +9,19 @@ ghost use Rattle.rules.specs.Doing.{kept_if};
 ghost use Rattle.rules.specs.Giving.{typed, typed_in};
 ghost use Rattle.rules.specs.Lines.{page, seen_lines, unchosen};
 ghost use Rattle.rules.specs.World.{with_text};
-ghost use Rattle.state.specs.Worlds.{world_of, Seated};
+ghost use Rattle.state.specs.Worlds.{world_of};
 ghost use Rattle.commanding.specs.Outcomes.{fault_of};
 
 use command::fault::Fault;
 use command::said::Addresses;
 use editing::keeping::fill_keep;
 use editing::single::put_line;
-use lines::line::Tag;
+use lines::line::{LineText, PLAIN};
 use lines::store::LineStore;
-use resolving::addresses::resolve_line;
+use resolving::page::Page;
+use state::desk::Desk;
 use state::mode::Mode;
 use state::session::Session;
-
-// The tag of a line that has no mark and is not chosen.
-const PLAIN: Tag = 0;
 
 // Makes a line current, and begins text mode: what is typed then goes in behind that line.
 pub fn append<T: LineStore>(
@@ -37,11 +34,11 @@ pub fn append<T: LineStore>(
     ensures world { (k : Store) (h : Shelf) → world_of session.new (T.LineStore.meaning text.now) k h ≡ (appended (world_of session.old (T.LineStore.meaning text.now) k h) (addresses_view addresses.entry)).world }
 {
     let before = session.current;
-    let n = match resolve_line(text, before, addresses, before, true) {
-        Ok(n) => n,
-        Err(fault) => return Err(fault),
+    let page = Page {
+        text,
+        current: before,
     };
-    session.current = n;
+    session.current = page.line(addresses, before, true)?;
     session.mode = Mode::Typing { before, any: false };
     Ok(())
 }
@@ -49,62 +46,47 @@ pub fn append<T: LineStore>(
 // Takes a line typed in text mode, which is not `.`: it goes in behind the current one and is current then. The first that
 // goes in fills the keep, with the current line from before the `a`.
 pub fn put_typed<T: LineStore, K: LineStore>(
-    session: &mut Session,
-    text: &mut T,
-    keep: &mut K,
+    desk: &mut Desk<'_, T, K>,
     before: usize,
     any: bool,
-    line: &[u8],
+    line: LineText<'_>,
 ) -> Result<(), Fault>
-    requires seated { Seated session.old (T.LineStore.meaning text.old) (K.LineStore.meaning keep.old) }
-    requires short { length line.now ≤ 255 }
-    requires unbroken { holds_break line.now ≡ false }
-    requires text { bytes_eq line.now (46 ∷ []) ≡ false }
-    ensures value { (h : Shelf) → fault_of result ≡ (typed (world_of session.old (T.LineStore.meaning text.old) (K.LineStore.meaning keep.old) h) before any line.now).fault }
-    ensures world { (h : Shelf) → world_of session.new (T.LineStore.meaning text.new) (K.LineStore.meaning keep.new) h ≡ (typed (world_of session.old (T.LineStore.meaning text.old) (K.LineStore.meaning keep.old) h) before any line.now).world }
-    ensures text { (T.LineStore.meaning text.new).capacity ≡ (T.LineStore.meaning text.old).capacity }
-    ensures keep { (K.LineStore.meaning keep.new).capacity ≡ (K.LineStore.meaning keep.old).capacity }
+    requires { bytes_eq line.bytes.now (46 ∷ []) ≡ false }
+    ensures value { (h : Shelf) → fault_of result ≡ (typed (world_of desk.old.session.now (T.LineStore.meaning desk.old.text.now) (K.LineStore.meaning desk.old.keep.now) h) before any line.entry.bytes.now).fault }
+    ensures world { (h : Shelf) → world_of desk.new.session.now (T.LineStore.meaning desk.new.text.now) (K.LineStore.meaning desk.new.keep.now) h ≡ (typed (world_of desk.old.session.now (T.LineStore.meaning desk.old.text.now) (K.LineStore.meaning desk.old.keep.now) h) before any line.entry.bytes.now).world }
+    ensures text { (T.LineStore.meaning desk.new.text.now).capacity ≡ (T.LineStore.meaning desk.old.text.now).capacity }
+    ensures keep { (K.LineStore.meaning desk.new.keep.now).capacity ≡ (K.LineStore.meaning desk.old.keep.now).capacity }
 {
-    if text.count() >= session.capacity {
+    if desk.text.count() >= desk.session.capacity {
         return Err(Fault::TextFull);
     }
-    keep_before(session, text, keep, before, any);
-    put_behind_current(session, text, line);
-    session.unsaved = true;
-    session.mode = Mode::Typing { before, any: true };
+    if !any {
+        keep_text(desk, before);
+    }
+    put_behind_current(desk, line);
+    desk.session.unsaved = true;
+    desk.session.mode = Mode::Typing { before, any: true };
     Ok(())
 }
 
-// Copies the text into the keep, with the current line from before the `a`, unless a line has gone in since.
-fn keep_before<T: LineStore, K: LineStore>(
-    session: &mut Session,
-    text: &T,
-    keep: &mut K,
-    before: usize,
-    any: bool,
-)
-    requires { (T.LineStore.meaning text.now).capacity ≡ (K.LineStore.meaning keep.old).capacity }
-    ensures world { (h : Shelf) → world_of session.new (T.LineStore.meaning text.now) (K.LineStore.meaning keep.new) h ≡ kept_if (not any) (page (unchosen (seen_lines (T.LineStore.meaning text.now))) before) (world_of session.old (T.LineStore.meaning text.now) (K.LineStore.meaning keep.old) h) }
-    ensures current { session.new.current ≡ session.old.current }
-    ensures keep { (K.LineStore.meaning keep.new).capacity ≡ (K.LineStore.meaning keep.old).capacity }
+// Copies the text into the keep, with the current line from before the `a`.
+fn keep_text<T: LineStore, K: LineStore>(desk: &mut Desk<'_, T, K>, before: usize)
+    ensures world { (h : Shelf) → world_of desk.new.session.now (T.LineStore.meaning desk.new.text.now) (K.LineStore.meaning desk.new.keep.now) h ≡ kept_if true (page (unchosen (seen_lines (T.LineStore.meaning desk.old.text.now))) before) (world_of desk.old.session.now (T.LineStore.meaning desk.old.text.now) (K.LineStore.meaning desk.old.keep.now) h) }
+    ensures current { desk.new.session.now.current ≡ desk.old.session.now.current }
+    ensures text { T.LineStore.meaning desk.new.text.now ≡ T.LineStore.meaning desk.old.text.now }
+    ensures keep { (K.LineStore.meaning desk.new.keep.now).capacity ≡ (K.LineStore.meaning desk.old.keep.now).capacity }
 {
-    if any {
-        return;
-    }
-    fill_keep(text, keep);
-    session.kept_current = before;
-    session.undoable = true;
+    fill_keep(desk.text, desk.keep);
+    desk.session.kept = Some(before);
 }
 
 // Puts a line behind the current one, and makes it current.
-fn put_behind_current<T: LineStore>(session: &mut Session, text: &mut T, line: &[u8])
-    requires within { session.old.current ≤ length (T.LineStore.meaning text.old).lines }
-    requires room { length (T.LineStore.meaning text.old).lines < (T.LineStore.meaning text.old).capacity }
-    requires short { length line.now ≤ 255 }
-    requires unbroken { holds_break line.now ≡ false }
-    ensures world { (k : Store) (h : Shelf) → world_of session.new (T.LineStore.meaning text.new) k h ≡ with_text (typed_in (page (seen_lines (T.LineStore.meaning text.old)) session.old.current) line.now) (world_of session.old (T.LineStore.meaning text.old) k h) }
-    ensures text { (T.LineStore.meaning text.new).capacity ≡ (T.LineStore.meaning text.old).capacity }
+fn put_behind_current<T: LineStore, K: LineStore>(desk: &mut Desk<'_, T, K>, line: LineText<'_>)
+    requires { length (T.LineStore.meaning desk.old.text.now).lines < (T.LineStore.meaning desk.old.text.now).capacity }
+    ensures world { (h : Shelf) → world_of desk.new.session.now (T.LineStore.meaning desk.new.text.now) (K.LineStore.meaning desk.new.keep.now) h ≡ with_text (typed_in (page (seen_lines (T.LineStore.meaning desk.old.text.now)) desk.old.session.now.current) line.entry.bytes.now) (world_of desk.old.session.now (T.LineStore.meaning desk.old.text.now) (K.LineStore.meaning desk.old.keep.now) h) }
+    ensures text { (T.LineStore.meaning desk.new.text.now).capacity ≡ (T.LineStore.meaning desk.old.text.now).capacity }
+    ensures keep { (K.LineStore.meaning desk.new.keep.now).capacity ≡ (K.LineStore.meaning desk.old.keep.now).capacity }
 {
-    put_line(text, session.current, line, PLAIN);
-    session.current += 1;
+    put_line(desk.text, desk.session.current, line, PLAIN);
+    desk.session.current += 1;
 }

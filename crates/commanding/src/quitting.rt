@@ -16,10 +16,7 @@ pub fn quit(session: &mut Session) -> Result<(), Fault>
     ensures value { (t k : Store) (h : Shelf) → fault_of result ≡ (quitted (world_of session.old t k h)).fault }
     ensures world { (t k : Store) (h : Shelf) → world_of session.new t k h ≡ (quitted (world_of session.old t k h)).world }
 {
-    match check_saved(session) {
-        Ok(()) => {}
-        Err(fault) => return Err(fault),
-    }
+    check_saved(session)?;
     session.mode = Mode::Ended;
     Ok(())
 }

@@ -22,13 +22,10 @@ pub fn undo<T: LineStore, K: LineStore>(
     ensures text { (T.LineStore.meaning text.new).capacity ≡ (T.LineStore.meaning text.old).capacity }
     ensures keep { (K.LineStore.meaning keep.new).capacity ≡ (K.LineStore.meaning keep.old).capacity }
 {
-    if !session.undoable {
-        return Err(Fault::NothingToUndo);
-    }
+    let kept = session.kept.ok_or(Fault::NothingToUndo)?;
     exchange(text, keep);
-    let current = session.current;
-    session.current = session.kept_current;
-    session.kept_current = current;
+    session.kept = Some(session.current);
+    session.current = kept;
     session.unsaved = true;
     Ok(())
 }

@@ -1,6 +1,6 @@
 -- Reading a file in chunks, and putting its lines into a text one by one.
 use Rattle.std.proofs.Common.{◌≡◌, ℕ, suc, ◌+◌, ◌-◌, ◌<◌, ◌≤◌, true, List, [], ◌∷◌, ◌++◌, map, length, take, drop, sym, ap, ◌∙◌, arith}
-use Rattle.std.proofs.lemmas.List.{append-nil, append_assoc, length_push, length-map, length-drop, take-take, take_all, drop_all, drop-drop, take-append-drop, at_drop_all, map_push}
+use Rattle.std.proofs.lemmas.List.{append_assoc, length_push, length-map, length-drop, take-take, take_all, drop_all, drop-drop, take-append-drop, map_push}
 use Rattle.std.proofs.lemmas.List.Sums.{get_or-le-sum_by}
 use Rattle.std.proofs.lemmas.Bool.{ltb-true}
 use Rattle.lines.specs.Line as stored
@@ -93,8 +93,3 @@ loaded_more all s e p q bs inside next is same was =
       fits = ap (λ (x : List ℕ). all_fit (split x)) (sym behind) ∙ (first_fits rest some was.fits).rest;
       room = omega arith;
     }
-
-pub loaded_all : (all : List Line) (s : Store) (p : ℕ) (bs : List ℕ) → length bs ≤ p → Loaded all s p bs → seen_lines s ≡ all
-loaded_all all s p bs past was =
-    sym (append-nil (seen_lines s))
-    ∙ (sym (at_drop_all (λ (x : List ℕ). seen_lines s ++ map created (split x)) bs p past) ∙ was.lines)

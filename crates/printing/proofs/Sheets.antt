@@ -1,7 +1,7 @@
 -- Writing onto a sheet, piece by piece.
 use Rattle.std.proofs.Common.{◌≡◌, ℕ, zero, suc, ◌+◌, ◌-◌, ◌<◌, ◌≤◌, List, [], ◌∷◌, ◌++◌, length, take, drop, set, sym, ap, ◌∙◌, arith, rules}
 use borrow.Rule.Slice.PartMut.{put_mid}
-use Rattle.std.proofs.lemmas.List.{places, same_lists, get_or-set_same, take-set-le, drop-set, length_push, append_assoc}
+use Rattle.std.proofs.lemmas.List.{places, same_lists, get_or-set_same}
 use Rattle.std.proofs.lemmas.Bool.{cases_eq}
 use Rattle.rules.specs.Lines.{picked, from_to}
 use Rattle.printing.specs.Sheets.{written}
@@ -18,15 +18,6 @@ written_more s at a b h = same_lists _ _ (search (rules, places)) (λ k d within
 -- nothing written
 pub written_none : (s : List ℕ) (at : ℕ) → at ≤ length s → s ≡ written s at []
 written_none s at h = same_lists _ _ (search (rules, places)) (λ k d within. grind (arith, places))
-
--- the byte behind may be written first
-pub written_back : (s : List ℕ) (at : ℕ) (a : List ℕ) (b i : ℕ) → i ≡ at + length a → i < length s
-    → written (set s i b) at a ≡ written s at (a ++ (b ∷ []))
-written_back s at a b i e h =
-    let front : take at (set s i b) ≡ take at s = take-set-le at s i b (omega arith) in
-    let rest : drop (at + length a) (set s i b) ≡ b ∷ drop (i + 1) s = ap (λ j. drop j (set s i b)) (sym e) ∙ drop-set s i b h in
-    let far : at + length (a ++ (b ∷ [])) ≡ i + 1 = omega (arith, length_push a b) in
-    rw (front, rest, far, append_assoc a (b ∷ []) (drop (i + 1) s))
 
 pub written_one : (s : List ℕ) (at b : ℕ) → at < length s → set s at b ≡ written s at (b ∷ [])
 written_one s at b h = same_lists _ _ (search (rules, places)) (λ k d within. grind (arith, places, get_or-set_same, cases_eq k at))

@@ -11,9 +11,6 @@ over xs a zs = take a xs ++ (zs ++ drop (a + length zs) xs)
 pub put-over : (a e : ℕ) (xs ys zs : List ℕ) → ys ≡ zs → e ≡ a + length zs → e ≤ length xs → put_mid a (e - a) xs ys ≡ over xs a zs
 put-over a e xs ys zs p q r = same_lists _ _ (search (rules, places)) (λ k d h. grind (arith, places))
 
-pub length_over : (xs : List ℕ) (a : ℕ) (zs : List ℕ) → a + length zs ≤ length xs → length (over xs a zs) ≡ length xs
-length_over xs a zs h = search (rules, places)
-
 pub front-over : (xs : List ℕ) (a : ℕ) (zs : List ℕ) (n : ℕ) → a + length zs ≤ length xs → n ≡ a + length zs → take n (over xs a zs) ≡ take a xs ++ zs
 front-over xs a zs n h e = same_lists _ _ (search (rules, places)) (λ k d g. grind (arith, places))
 

@@ -1,5 +1,5 @@
 -- What a session means, with the text, the keep and the shelf that it works on: the world of the rules.
-use Rattle.std.specs.Prelude.{◌≡◌, ℕ, ◌≤◌, List, length, take}
+use Rattle.std.specs.Prelude.{ℕ, List, take, is_some, unwrap_or}
 use Rattle.std.specs.Option.{option_map}
 use Rattle.lines.specs.Store.{Store}
 use Rattle.shelf.specs.Shelf.{Shelf}
@@ -14,28 +14,21 @@ use Rattle.state.specs.declared.session.Session.{Session}
 abbrev pub gathered_of : Gathered → List ℕ
 gathered_of g = take g.len g.bytes
 
-abbrev pub mode_of : ModeCode → Gathered → Mode
-mode_of Commands g = commands
-mode_of Gathering g = gathering (gathered_of g)
-mode_of (Typing before any) g = typing before any
-mode_of Ended g = ended
+abbrev pub mode_of : ModeCode → Mode
+mode_of Commands = commands
+mode_of (Gathering g) = gathering (gathered_of g)
+mode_of (Typing before any) = typing before any
+mode_of Ended = ended
 
 abbrev pub world_of : Session → Store → Store → Shelf → World
 world_of s t k h = record {
-  mode = mode_of s.mode s.gathered;
+  mode = mode_of s.mode;
   text = page (seen_lines t) s.current;
-  keep = page (seen_lines k) s.kept_current;
+  keep = page (seen_lines k) (unwrap_or s.kept 0);
   capacity = s.capacity;
   shelf = h;
   name = option_map text_of s.name;
-  undoable = s.undoable;
+  undoable = is_some s.kept;
   unsaved = s.unsaved;
   warned = s.warned;
 }
-
--- what the entry checks have made sure of: the stores are those that the session was opened with, and the current line is
--- one of the text's or 0
-pub record Seated (s : Session) (t k : Store) : Type 0 where
-  pub text : s.capacity ≡ t.capacity
-  pub keep : s.capacity ≡ k.capacity
-  pub within : s.current ≤ length t.lines

@@ -3,6 +3,7 @@ ghost use Rattle.std.specs.Prelude.{◌≡◌, ◌+◌, ◌≤◌, true, false, 
 
 use reading::line::GATHER_MAX;
 
+// Bytes in place with their number: no call allocates, and a session is `Copy`, which an `ArrayVec` is not.
 #[derive(Clone, Copy)]
 pub struct Gathered {
     bytes: [u8; GATHER_MAX],

@@ -1,6 +1,6 @@
 -- Lines changed one at a time: one line of a store gets another tag, and a walk changes the first lines.
 use Rattle.std.proofs.Common.{◌≡◌, ℕ, zero, suc, ◌+◌, ◌-◌, ◌<◌, ◌≤◌, List, [], ◌∷◌, map, length, get_or, set, sym, refl, ap, ◌∙◌, add-one, arith}
-use Rattle.std.proofs.lemmas.List.{set-get_or, length-set, length-map}
+use Rattle.std.proofs.lemmas.List.{set-get_or, length-map}
 use Rattle.lines.specs.Line.{blank}
 use Rattle.lines.specs.Store.{Store, with_lines, line_at}
 use Rattle.rules.specs.Lines.{Line, seen, seen_lines, on_line}
@@ -28,10 +28,6 @@ pub changed : (s x : Store) (n from to : ℕ) (f : Line → Line) → 1 ≤ n �
 changed s x n from to f one le after was means =
     ap seen_lines after
     ∙ retagged s n to f one le (means (line_at s n).text ∙ ap (λ g. f (seen (record { text = (line_at s n).text; tag = g }))) was)
-
-pub changed-count : (s x : Store) (n to : ℕ) → x ≡ tagged s n to → length x.lines ≡ length s.lines
-changed-count s x n to after =
-    ap (λ (y : Store). length y.lines) after ∙ length-set s.lines (n - 1) (record { text = (line_at s n).text; tag = to })
 
 -- what a tag says of a line that bears it
 pub told : {A : Type 0} (s : Store) (n from : ℕ) (r : A) (ask : Line → A) → from ≡ (line_at s n).tag
@@ -82,9 +78,6 @@ pub seen-count : (s x : Store) → length (seen_lines x) ≡ length (seen_lines 
 seen-count s x e = sym (length-map x.lines seen) ∙ e ∙ length-map s.lines seen
 
 module _ (f : Line → Line) where
-  pub walked_none : (s : Store) → Walked f 0 s s
-  walked_none s = record { lines = refl; count = refl; capacity = refl }
-
   pub walked_more : (i : ℕ) (s x y : Store) → Walked f i s x → seen_lines y ≡ on_line (i + 1) f (seen_lines x) → y.capacity ≡ x.capacity → Walked f (i + 1) s y
   walked_more i s x y w e c =
       let now : seen_lines y ≡ on_first (i + 1) f (seen_lines s) = e ∙ ap (on_line (i + 1) f) w.lines ∙ on_first_more f i (seen_lines s) in

@@ -1,4 +1,4 @@
-use Rattle.std.proofs.Common.{◌≡◌, ℕ, ◌-◌, List, ◌++◌, length, drop, Ok, Option, sym, ap, ◌∙◌}
+use Rattle.std.proofs.Common.{◌≡◌, ℕ, ◌-◌, List, ◌++◌, length, drop, Some, Ok, Option, sym, ap, ◌∙◌, rules}
 use Rattle.std.specs.Option.{option_map}
 use Rattle.shelf.specs.declared.label.Label.{Label}
 use Rattle.shelf.specs.Text.{text_of}
@@ -15,12 +15,12 @@ use Rattle.commanding.proofs.reading_in.edit.Goals as goal
 
 pub returns-in-Given : goal.returns-in-Given
 returns-in-Given g c =
-    let w = world_of c.args.session.now (g.T.LineStore.meaning c.args.text.now) (g.K.LineStore.meaning c.args.keep.now) (g.S.Shelf.meaning c.args.shelf.now) in
+    let w = world_of c.args.desk.now.session.now (g.T.LineStore.meaning c.args.desk.now.text.now) (g.K.LineStore.meaning c.args.desk.now.keep.now) (g.S.Shelf.meaning c.args.shelf.now) in
     let n = name_view c.args.name in
     let f = c.in-Given.name.now in
     let sheet = c.args.sheet.now in
     let named : name_of w n ≡ Ok f = ap (λ (x : FileNameCode). name_of w (name_view x)) c.in-Given.is in
-    let d : edited (length sheet - 16) w n ≡ read_named (length sheet - 16) w f = edited-named (length sheet - 16) w n f (sym c.in-Ok.ensures) named in
+    let d : edited (length sheet - 16) w n ≡ read_named (length sheet - 16) w f = edited-named (length sheet - 16) w n f (sym c.in_ok-check_saved.ensures) named in
     record {
       value = c.edit_named.ensures.value ∙ sym (ap (λ (o : Outcome). o.fault) d);
       bytes = c.edit_named.ensures.bytes ∙ sym (ap (λ (o : Outcome). length o.out) d);
@@ -30,17 +30,18 @@ returns-in-Given g c =
       keep = c.edit_named.ensures.keep;
     }
 
-pub returns-in-Some : goal.returns-in-Some
-returns-in-Some g c =
-    let w = world_of c.args.session.now (g.T.LineStore.meaning c.args.text.now) (g.K.LineStore.meaning c.args.keep.now) (g.S.Shelf.meaning c.args.shelf.now) in
+pub returns-in_ok-label-in-Remembered : goal.returns-in_ok-label-in-Remembered
+returns-in_ok-label-in-Remembered g c =
+    let w = world_of c.args.desk.now.session.now (g.T.LineStore.meaning c.args.desk.now.text.now) (g.K.LineStore.meaning c.args.desk.now.keep.now) (g.S.Shelf.meaning c.args.shelf.now) in
     let n = name_view c.args.name in
     let f = c.text.result.now in
     let sheet = c.args.sheet.now in
+    let known : c.args.desk.now.session.now.name ≡ Some c.in_ok-label-in-Remembered.label = search rules in
     let named : name_of w n ≡ Ok f =
     ap (λ (x : FileNameCode). name_of w (name_view x)) c.in-Remembered.is
-    ∙ ap (λ (o : Option Label). or_fault NoName (option_map text_of o)) c.in-Some.is
+    ∙ ap (λ (o : Option Label). or_fault NoName (option_map text_of o)) known
     ∙ ap (λ (b : List ℕ). Ok b) (sym c.text.ensures) in
-    let d : edited (length sheet - 16) w n ≡ read_named (length sheet - 16) w f = edited-named (length sheet - 16) w n f (sym c.in-Ok.ensures) named in
+    let d : edited (length sheet - 16) w n ≡ read_named (length sheet - 16) w f = edited-named (length sheet - 16) w n f (sym c.in_ok-check_saved.ensures) named in
     record {
       value = c.edit_named-in-Remembered.ensures.value ∙ sym (ap (λ (o : Outcome). o.fault) d);
       bytes = c.edit_named-in-Remembered.ensures.bytes ∙ sym (ap (λ (o : Outcome). length o.out) d);
