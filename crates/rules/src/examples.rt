@@ -2,8 +2,6 @@
 ghost use Rattle.rules.specs.Examples.{Examples};
 
 // Every example comes out as it is stated.
-pub fn examples_hold() -> u8
+pub fn examples_hold()
     ensures { Examples }
-{
-    0
-}
+{}

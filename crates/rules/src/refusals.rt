@@ -2,8 +2,6 @@
 ghost use Rattle.rules.specs.Refusals.{RefusalsAlterNothing};
 
 // The law holds of every world and every line.
-pub fn refusals_alter_nothing() -> u8
+pub fn refusals_alter_nothing()
     ensures { RefusalsAlterNothing }
-{
-    0
-}
+{}
