@@ -1,6 +1,6 @@
 -- A text reckoned line by line: from the range's first line to its last, and what the lines of a store bring along.
-use Rattle.std.proofs.Common.{◌≡◌, ℕ, zero, suc, ◌+◌, ◌-◌, ◌<◌, ◌≤◌, min, true, not, leb, List, [], ◌∷◌, ◌++◌, map, length, get_or, take, drop, sym, refl, ap, ◌∙◌, subst, arith}
-use Rattle.std.proofs.lemmas.List.{length-drop, get_or-map, get_or-drop, drop-map}
+use Rattle.std.proofs.Common.{◌≡◌, ℕ, zero, suc, ◌+◌, ◌-◌, ◌<◌, ◌≤◌, min, true, false, not, leb, List, [], ◌∷◌, ◌++◌, map, length, get_or, take, drop, sym, refl, ap, ◌∙◌, subst, arith}
+use Rattle.std.proofs.lemmas.List.{length-map, length-drop, get_or-map, get_or-drop, drop-map}
 use Rattle.std.proofs.lemmas.Bool.{and_from, le-leb, not_from_false}
 use Rattle.lines.specs.Line as stored
 use Rattle.lines.specs.Store.{Store, Sound, line_at}
@@ -14,12 +14,13 @@ use Rattle.lines.specs.Line.{all_fit}
 use Rattle.rules.specs.Doing.{texts_of}
 use Rattle.rules.specs.Effects.{rewritten}
 use Rattle.rules.specs.Lines.{Line, seen, seen_lines, picked}
-use Rattle.rules.specs.Pieces.{span, last_new}
+use Rattle.rules.specs.Patterns.{matches, substituted}
+use Rattle.rules.specs.Pieces.{Piece, old, span, news, last_new}
 use Rattle.substituting.specs.declared.reckoning.Reckoned.{Reckoned}
 use Rattle.substituting.specs.Made.{pieces_of, after, pieces_for}
-use Rattle.substituting.specs.Reckoning.{reckoned_pieces, none_reckoned}
+use Rattle.substituting.specs.Reckoning.{reckoned_pieces, none_reckoned, Right}
 use Rattle.substituting.proofs.Piecing.{rewritten_front, rewritten_next, rewritten-past, rewritten-present}
-use Rattle.substituting.proofs.Tallying.{Tallied, stayed, reckoned_append, reckoned_span, tally_all, tally_none}
+use Rattle.substituting.proofs.Tallying.{stayed, reckoned_append, reckoned_span, tally_all, tally_none, tallied-right}
 
 module _ (s : Substitution) (r : Span) where
   pub reckoned_front : (m : ℕ) (ls : List Line) → m + 1 ≤ r.first → m ≤ length ls → m ≤ 4097
@@ -51,6 +52,23 @@ seen_text t i h =
     let e : i ≡ i + 1 - 1 = omega arith in
     ap (λ (l : Line). l.text) (get_or-map seen t.lines i stored.blank (seen stored.blank) h) ∙ ap (λ n. (get_or t.lines n stored.blank).text) e
 
+-- line n done
+pub reckoned_turn : (s : Substitution) (r : Span) (t : Store) (k next : Reckoned) (n : ℕ) → 1 ≤ n → n ≤ length t.lines → r.first ≤ n → n ≤ r.final
+    → next ≡ reckoned_pieces k (pieces_for s n (line_at t n).text)
+    → reckoned_pieces next (rewritten s r (n + 1) (drop n (seen_lines t)))
+    ≡ reckoned_pieces k (rewritten s r (n - 1 + 1) (drop (n - 1) (seen_lines t)))
+reckoned_turn s r t k next n some here low high is =
+    let i : ℕ = n - 1 in
+    let ls : List Line = seen_lines t in
+    let d : Line = seen stored.blank in
+    let m : length ls ≡ length t.lines = length-map t.lines seen in
+    let e : n ≡ i + 1 = omega arith in
+    ap (λ (x : Reckoned). reckoned_pieces x (rewritten s r (n + 1) (drop n ls)))
+    (is ∙ ap (λ j. reckoned_pieces k (pieces_for s j (line_at t j).text)) e
+    ∙ ap (λ (b : List ℕ). reckoned_pieces k (pieces_for s (i + 1) b)) (sym (seen_text t i (omega arith))))
+    ∙ ap (λ j. reckoned_pieces (reckoned_pieces k (pieces_for s (i + 1) (get_or ls i d).text)) (rewritten s r (j + 1) (drop j ls))) e
+    ∙ reckoned_next s r k i ls d (omega arith) (omega arith) (omega arith)
+
 pub seen_fit : (t : Store) → Sound t → (n : ℕ) → all_fit (texts_of (picked (seen_lines t) n)) ≡ true
 seen_fit t f zero = refl
 seen_fit t f (suc j) =
@@ -67,8 +85,14 @@ seen_fit t f (suc j) =
         (and_from (leb (length l.text) 255) (not (stored.holds_break l.text)) (le-leb (length l.text) 255 g.0) (not_from_false (stored.holds_break l.text) g.1))
         refl
 
-pub tallied : (s : SubstitutionCode) (range : Range) (t : Store) → Sound t
-    → Tallied (after s range t) (last_new 0 0 (pieces_of s range t)) (reckoned_pieces none_reckoned (pieces_of s range t))
-tallied s range t f =
-    tally_all (seen_lines t) (seen_fit t f) (pieces_of s range t) [] 0 none_reckoned
-    (rewritten-present (substitution_view s) (span_of range) (length (seen_lines t)) 1 (seen_lines t) (omega arith) (omega arith)) tally_none
+pub right : (s : SubstitutionCode) (range : Range) (t : Store) → Sound t → (r : Reckoned) → r ≡ reckoned_pieces none_reckoned (pieces_of s range t)
+    → Right (after s range t) (last_new 0 0 (pieces_of s range t)) r
+right s range t f r is =
+    subst (λ (k : Reckoned). Right (after s range t) (last_new 0 0 (pieces_of s range t)) k) (sym is)
+    (tallied-right _ _ _
+    (tally_all (seen_lines t) (seen_fit t f) (pieces_of s range t) [] 0 none_reckoned
+    (rewritten-present (substitution_view s) (span_of range) (length (seen_lines t)) 1 (seen_lines t) (omega arith) (omega arith)) tally_none))
+
+-- a line that matches
+pub pieces_hit : (s : Substitution) (n : ℕ) (t : List ℕ) → matches s.sought t ≡ true → pieces_for s n t ≡ news (substituted s t)
+pieces_hit s n t e = ap (λ b. elim b as (λ _. List Piece) [ true ↦ news (substituted s t) | false ↦ old n ∷ [] ]) e

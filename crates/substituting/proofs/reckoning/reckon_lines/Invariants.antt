@@ -1,4 +1,4 @@
-use Rattle.std.proofs.Common.{◌≡◌, ◌+◌, ◌≤◌, drop}
+use Rattle.std.proofs.Common.{◌≡◌, ◌+◌, ◌-◌, ◌≤◌, drop}
 use Rattle.command.specs.View.{substitution_view}
 use Rattle.ranges.specs.Spans.{span_of}
 use Rattle.rules.specs.Effects.{rewritten}
@@ -7,9 +7,12 @@ use Rattle.substituting.specs.Made.{pieces_of}
 use Rattle.substituting.specs.Reckoning.{reckoned_pieces, none_reckoned}
 use Rattle.substituting.proofs.reckoning.reckon_lines.Given as goal
 
-abbrev pub invariant-loop-i : goal.invariant-loop-i
-invariant-loop-i g l =
+abbrev pub invariant-loop-n : goal.invariant-loop-n
+invariant-loop-n g l =
     let t = g.T.LineStore.meaning l.text in
-    (reckoned_pieces l.sum (rewritten (substitution_view l.substitution) (span_of l.range) (l.i + 1) (drop l.i (seen_lines t)))
-    ≡ reckoned_pieces none_reckoned (pieces_of l.substitution l.range t))
-    × (l.sum.count ≤ 4097)
+    let s = l.rule.substitution in
+    record {
+      whole : reckoned_pieces l.sum (rewritten (substitution_view s) (span_of l.range) (l.n - 1 + 1) (drop (l.n - 1) (seen_lines t)))
+          ≡ reckoned_pieces none_reckoned (pieces_of s l.range t);
+      few : l.sum.count ≤ 4097;
+    }
