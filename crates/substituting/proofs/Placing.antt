@@ -1,5 +1,5 @@
 -- Lines put and taken away, as an editor sees them.
-use Rattle.std.proofs.Common.{◌≡◌, ℕ, ◌+◌, ◌-◌, ◌<◌, ◌≤◌, true, false, not, leb, List, [], ◌∷◌, ◌++◌, map, length, get_or, take, drop, Some, Option, sym, refl, ap, ◌∙◌, subst, arith}
+use Rattle.std.proofs.Common.{◌≡◌, ℕ, ◌+◌, ◌-◌, ◌<◌, ◌≤◌, true, false, not, leb, List, [], ◌∷◌, ◌++◌, map, length, get_or, take, drop, Some, Option, sym, refl, ap, ◌∙◌, arith}
 use Rattle.std.proofs.lemmas.List.{append_assoc, length-append, length-map, length-take-le, length-drop, map-append, take-map, drop-map, take_at, drop_at, take-append-drop, get_or-map, drop_more}
 use Rattle.std.proofs.lemmas.Bool.{and_parts, leb-true}
 use Rattle.lines.specs.Line as stored
@@ -13,9 +13,6 @@ use Rattle.substituting.specs.Made.{lines_for}
 use Rattle.arrayvec.specs.ArrayVec.{ArrayVec}
 use Rattle.substituting.specs.Spelling.{line_of}
 use Rattle.substituting.proofs.Writing.{line_short}
-
-pub seen-created : (t : List ℕ) → seen (record { text = t; tag = 0 }) ≡ created t
-seen-created t = refl
 
 pub seen-inserted : (ls : List stored.Line) (n : ℕ) (t : List ℕ)
     → map seen (inserted ls n (record { text = t; tag = 0 })) ≡ take n (map seen ls) ++ (created t ∷ drop n (map seen ls))
@@ -77,10 +74,6 @@ putting_more all start now next from b l left p e c =
       capacity = c ∙ p.capacity;
     }
 
-pub putting_over : (all : List (List ℕ)) (start now : Store) (from b : ℕ) → Putting all start now from b []
-    → seen_lines now ≡ take from (seen_lines start) ++ (map created all ++ drop from (seen_lines start))
-putting_over all start now from b p = sym (take-append-drop b (seen_lines now)) ∙ p.lines
-
 -- the same, with what an iterator has left
 pub record Left (all : List (List ℕ)) (start now : Store) (from b : ℕ) (rest : List (Option (ArrayVec ℕ))) : Type 0 where
   pub lines : List (List ℕ)
@@ -108,13 +101,6 @@ module _ (all : List (List ℕ)) (start now : Store) (from b : ℕ) where
   pub next_put : (now_left : List (Option (ArrayVec ℕ))) (first : Option (ArrayVec ℕ)) (rest : List (Option (ArrayVec ℕ))) → Left all start now from b now_left
       → now_left ≡ first ∷ rest → Next all start now from b first rest
   next_put now_left first rest i e = first_put first rest i.lines (sym i.rest-is ∙ e) i.putting
-
-  none_left : (lines : List (List ℕ)) → map line_of lines ≡ [] → lines ≡ []
-  none_left [] e = refl
-  none_left (l ∷ ls) e = absurd (let z : ◌≡◌ {A = ℕ} 0 1 = cc in omega arith)
-
-  pub all_put : (now_left : List (Option (ArrayVec ℕ))) → Left all start now from b now_left → now_left ≡ [] → Putting all start now from b []
-  all_put now_left i e = subst (λ (ls : List (List ℕ)). Putting all start now from b ls) (none_left i.lines (sym i.rest-is ∙ e)) i.putting
 
 pub same_items : (v : ArrayVec ℕ) (w : List ℕ) → Some v ≡ Some (record { items = w }) → v.items ≡ w
 same_items v w e = let h : v ≡ record { items = w } = cc in ap (λ (x : ArrayVec ℕ). x.items) h
@@ -148,12 +134,6 @@ around t n h =
 module _ (S : List Line) (n : ℕ) (h : n < length S) where
   gone_is : take (n + 1 - 1) S ++ drop (n + 1) S ≡ take n S ++ drop (n + 1) S
   gone_is = let e : n + 1 - 1 ≡ n = omega arith in ap (λ k. take k S ++ drop (n + 1) S) e
-
-  pub gone_front : take n (take (n + 1 - 1) S ++ drop (n + 1) S) ≡ take n S
-  gone_front = ap (λ ls. take n ls) gone_is ∙ take_at (take n S) (drop (n + 1) S) n (length-take-le n S (omega arith))
-
-  pub gone_rest : drop n (take (n + 1 - 1) S ++ drop (n + 1) S) ≡ drop (n + 1) S
-  gone_rest = ap (λ ls. drop n ls) gone_is ∙ drop_at (take n S) (drop (n + 1) S) n (length-take-le n S (omega arith))
 
   pub length-gone : length (take (n + 1 - 1) S ++ drop (n + 1) S) + 1 ≡ length S
   length-gone = ap (λ ls. length ls + 1) gone_is ∙ omega (arith, length-append (take n S) (drop (n + 1) S), length-take-le n S (omega arith), length-drop (n + 1) S)

@@ -1,7 +1,8 @@
 -- What is reckoned is so: by the lines done so far, and the number of the last one created.
 use Rattle.std.proofs.Common.{◌≡◌, ℕ, zero, suc, ◌+◌, ◌-◌, ◌≤◌, min, Bool, true, false, cond, leb, not, ◌&&◌, List, [], ◌∷◌, ◌++◌, map, length, take, drop, Some, None, Option, IfSome, sym, refl, ap, ◌∙◌, subst, arith}
-use Rattle.std.proofs.lemmas.List.{append-nil, append_assoc, length-append, length-drop, drop-append-le, take-append-le, drop_at}
+use Rattle.std.proofs.lemmas.List.{append-nil, append_assoc, length-append, length-take-le, length-drop, drop-append-le, take-append-le, drop_at}
 use Rattle.std.proofs.lemmas.Bool.{and_parts}
+use Rattle.std.proofs.Math.Bool.{and_assoc, and-true}
 use Rattle.std.specs.List.{fold}
 use Rattle.lines.specs.Line.{holds_break, fitting, all_fit}
 use Rattle.rules.specs.Doing.{texts_of}
@@ -60,15 +61,12 @@ pub reckoned_news : (ts : List (List ℕ)) (k : Reckoned) → fold reckoned_line
 reckoned_news [] k = refl
 reckoned_news (t ∷ ts) k = reckoned_news ts (reckoned_line k (line_of t))
 
-reckoned_few : (ps : List Piece) (k : Reckoned) → k.count ≤ 4097 → (reckoned_pieces k ps).count ≤ 4097
+pub reckoned_few : (ps : List Piece) (k : Reckoned) → k.count ≤ 4097 → (reckoned_pieces k ps).count ≤ 4097
 reckoned_few [] k h = h
 reckoned_few (old n ∷ ps) k h = reckoned_few ps (reckoned_old k) (omega arith)
 reckoned_few (new t ∷ ps) k h =
     let e = ap (λ (r : Reckoned). r.count) (new-is k t) in
     reckoned_few ps (reckoned_line k (line_of t)) (omega arith)
-
-pub still_few : (ps : List Piece) (k next : Reckoned) → next ≡ reckoned_pieces k ps → k.count ≤ 4097 → next.count ≤ 4097
-still_few ps k next e h = subst (λ (x : Reckoned). x.count ≤ 4097) (sym e) (reckoned_few ps k h)
 
 abbrev pub stayed : Reckoned → ℕ → Reckoned
 stayed k m = record { count = m; fits = k.fits; last = k.last }
@@ -83,11 +81,8 @@ reckoned_span (suc m) n k h =
 
 pub all_fit_append : (xs ys : List Line) → all_fit (texts_of (xs ++ ys)) ≡ (all_fit (texts_of xs) && all_fit (texts_of ys))
 all_fit_append [] ys = refl
-all_fit_append (x ∷ xs) ys = ap (λ b. fitting x.text && b) (all_fit_append xs ys) ∙ and_assoc (fitting x.text) (all_fit (texts_of xs)) (all_fit (texts_of ys))
-  where
-    and_assoc : (a b c : Bool) → (a && (b && c)) ≡ ((a && b) && c)
-    and_assoc true b c = refl
-    and_assoc false b c = refl
+all_fit_append (x ∷ xs) ys =
+    ap (λ b. fitting x.text && b) (all_fit_append xs ys) ∙ sym (and_assoc (fitting x.text) (all_fit (texts_of xs)) (all_fit (texts_of ys)))
 
 picked_front : (b : ℕ) (xs ys : List Line) → 1 ≤ b → b ≤ length xs → picked (xs ++ ys) b ≡ picked xs b
 picked_front zero xs ys h k = absurd (omega arith)
@@ -98,17 +93,13 @@ picked_front (suc j) xs ys h k =
 picked_last : (xs : List Line) (l : Line) → picked (xs ++ (l ∷ [])) (suc (length xs)) ≡ l ∷ []
 picked_last xs l = ap (λ ls. take 1 ls) (drop_at xs (l ∷ []) (length xs) refl)
 
-and_yes : (a b : Bool) → b ≡ true → a ≡ (a && b)
-and_yes true b e = sym e
-and_yes false b e = refl
-
 tally_old : (done one : List Line) (best : ℕ) (k : Reckoned) → length one ≡ 1 → all_fit (texts_of one) ≡ true → Tallied done best k
     → Tallied (done ++ one) best (reckoned_old k)
 tally_old done one best k n f g =
     let e : length (done ++ one) ≡ length done + length one = length-append done one in
     record {
       count = omega (arith, g.count);
-      fits = g.fits ∙ and_yes (all_fit (texts_of done)) (all_fit (texts_of one)) f ∙ sym (all_fit_append done one);
+      fits = g.fits ∙ sym (and-true (all_fit (texts_of done))) ∙ ap (λ b. all_fit (texts_of done) && b) (sym f) ∙ sym (all_fit_append done one);
       last = g.last;
       some = g.some;
       within = omega (arith, g.within);
@@ -121,7 +112,7 @@ tally_new done t best k g =
     let e : length (done ++ (created t ∷ [])) ≡ length done + 1 = length-append done (created t ∷ []) in
     subst (λ (r : Reckoned). Tallied (done ++ (created t ∷ [])) (suc (length done)) r) (sym (new-is k t)) (record {
       count = omega (arith, g.count);
-      fits = ap (λ b. b && fitting t) g.fits ∙ ap (λ b. all_fit (texts_of done) && b) (one_fits (fitting t)) ∙ sym (all_fit_append done (created t ∷ []));
+      fits = ap (λ b. b && fitting t) g.fits ∙ ap (λ b. all_fit (texts_of done) && b) (sym (and-true (fitting t))) ∙ sym (all_fit_append done (created t ∷ []));
       last = omega (arith, g.count);
       some = omega arith;
       within = omega arith;
@@ -131,20 +122,12 @@ tally_new done t best k g =
           ∙ sym (ap (λ ls. length (printed ls)) (picked_last done (created t)) ∙ printed_one t);
     })
   where
-    one_fits : (b : Bool) → b ≡ (b && true)
-    one_fits true = refl
-    one_fits false = refl
-
     printed_one : (t : List ℕ) → length (printed (created t ∷ [])) ≡ length t + 1
     printed_one t = length-append (t ++ (10 ∷ [])) [] ∙ omega (arith, length-append t (10 ∷ []))
 
-length_first : (ls : List Line) → 1 ≤ length ls → length (take 1 ls) ≡ 1
-length_first [] h = absurd (omega arith)
-length_first (l ∷ ls) h = refl
-
 length-picked : (ls : List Line) (n : ℕ) → 1 ≤ n → n ≤ length ls → length (picked ls n) ≡ 1
 length-picked ls zero a b = absurd (omega arith)
-length-picked ls (suc n) a b = length_first (drop n ls) (omega (arith, length-drop n ls))
+length-picked ls (suc n) a b = length-take-le 1 (drop n ls) (omega (arith, length-drop n ls))
 
 moved : (d d' : List Line) (b b' : ℕ) (k : Reckoned) → d ≡ d' → b ≡ b' → Tallied d b k → Tallied d' b' k
 moved d d' b b' k e q h = subst (λ (x : ℕ). Tallied d' x k) q (subst (λ (x : List Line). Tallied x b k) e h)

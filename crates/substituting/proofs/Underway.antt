@@ -2,6 +2,7 @@
 use Rattle.std.proofs.Common.{◌≡◌, ℕ, zero, suc, ◌+◌, ◌-◌, ◌<◌, ◌≤◌, Bool, true, false, ◌&&◌, leb, List, [], ◌∷◌, ◌++◌, map, length, get_or, take, drop, sym, refl, ap, ◌∙◌, subst, add-one, arith}
 use Rattle.std.proofs.lemmas.List.{append-nil, append_assoc, length-append, length-map, length-take-le, length-drop, take_at, drop_at, drop-drop, drop_more, take-append-drop, take_rest, get_or-append-add, get_or-drop}
 use Rattle.std.proofs.lemmas.Bool.{and_parts}
+use Rattle.std.proofs.Math.Seq.{take-add}
 use Rattle.lines.specs.Line as stored
 use Rattle.lines.specs.Store.{Store, line_at}
 use Rattle.command.specs.Replacements.{Bit, bits_of}
@@ -37,16 +38,14 @@ placed-news : (L : List Line) (ts : List (List ℕ)) → placed created L (news 
 placed-news L [] = refl
 placed-news L (t ∷ ts) = ap (λ r. created t ∷ r) (placed-news L ts)
 
-first-and_more : (m : ℕ) (xs : List Line) → 1 ≤ length xs → take 1 xs ++ take m (drop 1 xs) ≡ take (suc m) xs
-first-and_more m [] h = absurd (omega arith)
-first-and_more m (x ∷ xs) h = refl
-
 placed-span : (m i : ℕ) (L : List Line) → i + m ≤ length L → placed created L (span (suc i) m) ≡ take m (drop i L)
 placed-span zero i L h = refl
 placed-span (suc m) i L h =
     let e : drop 1 (drop i L) ≡ drop (suc i) L = drop-drop 1 i L ∙ ap (λ n. drop n L) (add-one i) in
+    let n : 1 + m ≡ suc m = omega arith in
     ap (λ r. take 1 (drop i L) ++ r) (placed-span m (suc i) L (omega arith) ∙ ap (λ r. take m r) (sym e))
-    ∙ first-and_more m (drop i L) (omega (arith, length-drop i L))
+    ∙ sym (take-add 1 m (drop i L))
+    ∙ ap (λ k. take k (drop i L)) n
 
 placed_one : (i : ℕ) (L : List Line) (d : Line) → i < length L → placed created L (old (i + 1) ∷ []) ≡ get_or L i d ∷ []
 placed_one i L d h =
@@ -242,9 +241,6 @@ module _ (s : Substitution) (r : Span) (start now : Store) (n b : ℕ) (k : Turn
 
   high_now : n - 1 + 1 ≤ r.final
   high_now = omega (arith, k.some, k.high)
-
-  pub present_turn : b < length now.lines
-  present_turn = present_now s r start now (n - 1) b k.under here_now
 
   pub fits_turn : all_fit (texts_of (placed created (seen_lines start) (rewritten s r 1 (seen_lines start)))) ≡ true
       → all_fit (texts_of (lines_for s (seen (line_at now (b + 1))))) ≡ true

@@ -1,6 +1,6 @@
 -- A line that is being spelled out.
-use Rattle.std.proofs.Common.{◌≡◌, ℕ, ◌<◌, ◌≤◌, Bool, true, false, leb, cond, List, [], ◌∷◌, ◌++◌, map, length, Some, None, Option, IfSome, sym, refl, ap, ◌∙◌, subst, arith}
-use Rattle.std.proofs.lemmas.List.{append-nil, length-append}
+use Rattle.std.proofs.Common.{◌≡◌, ℕ, ◌<◌, ◌≤◌, Bool, true, false, leb, cond, List, [], ◌∷◌, ◌++◌, length, Some, None, Option, IfSome, sym, refl, ap, ◌∙◌, subst, arith}
+use Rattle.std.proofs.lemmas.List.{length-append}
 use Rattle.std.proofs.lemmas.Bool.{le-leb, lt-leb, leb-false}
 use Rattle.arrayvec.specs.ArrayVec.{ArrayVec}
 use Rattle.matching.specs.declared.answer.Match.{Match}
@@ -83,17 +83,3 @@ module _ (s : Substitution) (t : List ℕ) (start : Cursor) where
       written = longer o a e;
       placed = subst (λ (k : Option Cursor). IfSome k (Placed (length t))) next q.placed;
     }
-
-    -- the last one
-    pub last-ends : (o : Option (ArrayVec ℕ)) (a : List ℕ) → ((ls : List (List ℕ)) → ahead r.token ls ≡ in_front a ls)
-        → r.next ≡ None → o ≡ lengthened out a → map line_of (lines_from s t start) ≡ o ∷ []
-    last-ends o a adds next e =
-        ap (map line_of) (sym (added a adds) ∙ ap (λ (k : Option Cursor). in_front (p.line ++ a) (lines_left s t k)) next)
-        ∙ ap (λ (x : Option (ArrayVec ℕ)). x ∷ []) (sym (longer o a e))
-
-    -- a break
-    pub line-ends : ((ls : List (List ℕ)) → ahead r.token ls ≡ [] ∷ ls) → map line_of (lines_from s t start) ≡ out ∷ map line_of (lines_left s t r.next)
-    line-ends ends =
-        ap (map line_of) (sym p.lines ∙ ap (λ ls. in_front p.line ls) (q.lines ∙ ends (lines_left s t r.next)))
-        ∙ ap (λ (x : List ℕ). line_of x ∷ map line_of (lines_left s t r.next)) (append-nil p.line)
-        ∙ ap (λ (x : Option (ArrayVec ℕ)). x ∷ map line_of (lines_left s t r.next)) (sym p.written)
