@@ -1,5 +1,5 @@
 -- Lines put and taken away, as an editor sees them.
-use Rattle.std.proofs.Common.{◌≡◌, ℕ, ◌+◌, ◌-◌, ◌<◌, ◌≤◌, true, false, not, leb, List, [], ◌∷◌, ◌++◌, map, length, get_or, take, drop, sym, refl, ap, ◌∙◌, arith}
+use Rattle.std.proofs.Common.{◌≡◌, ℕ, ◌+◌, ◌-◌, ◌<◌, ◌≤◌, true, false, not, leb, List, [], ◌∷◌, ◌++◌, map, length, get_or, take, drop, Some, Option, sym, refl, ap, ◌∙◌, arith}
 use Rattle.std.proofs.lemmas.List.{append_assoc, length-append, length-map, length-take-le, length-drop, map-append, take-map, drop-map, take_at, drop_at, take-append-drop, get_or-map, drop_more}
 use Rattle.std.proofs.lemmas.Bool.{and_parts, leb-true}
 use Rattle.lines.specs.Line as stored
@@ -10,10 +10,9 @@ use Rattle.rules.specs.Doing.{texts_of}
 use Rattle.rules.specs.Lines.{Line, seen, seen_lines, created}
 use Rattle.rules.specs.Patterns.{matches, substituted}
 use Rattle.substituting.specs.Made.{lines_for}
-use Rattle.substituting.specs.Spelling.{Written}
-
-pub seen-created : (t : List ℕ) → seen (record { text = t; tag = 0 }) ≡ created t
-seen-created t = refl
+use Rattle.arrayvec.specs.ArrayVec.{ArrayVec}
+use Rattle.substituting.specs.Spelling.{line_of}
+use Rattle.substituting.proofs.Writing.{line_short}
 
 pub seen-inserted : (ls : List stored.Line) (n : ℕ) (t : List ℕ)
     → map seen (inserted ls n (record { text = t; tag = 0 })) ≡ take n (map seen ls) ++ (created t ∷ drop n (map seen ls))
@@ -22,18 +21,11 @@ seen-inserted ls n t = rw (map-append seen (take n ls), take-map seen n ls, drop
 pub seen_removed : (ls : List stored.Line) (n : ℕ) → map seen (take (n - 1) ls ++ drop n ls) ≡ take (n - 1) (map seen ls) ++ drop n (map seen ls)
 seen_removed ls n = rw (map-append seen (take (n - 1) ls), take-map seen (n - 1) ls, drop-map seen n ls)
 
--- a line that fits is in the buffer as a whole
+-- a line that fits is spelled out as a whole
+pub spelled_out : (w : List ℕ) → stored.fitting w ≡ true → line_of w ≡ Some (record { items = w })
+spelled_out w h = line_short w (leb-true (length w) 255 (and_parts (leb (length w) 255) (not (stored.holds_break w)) h).0)
 
-pub fitting-short : (w : List ℕ) → stored.fitting w ≡ true → length w ≤ 255
-fitting-short w h = leb-true (length w) 255 (and_parts (leb (length w) 255) (not (stored.holds_break w)) h).0
-
-pub spelled_out : (w out : List ℕ) (n : ℕ) → stored.fitting w ≡ true → Written w out n → take n out ≡ w
-spelled_out w out n h g = g.bytes (fitting-short w h)
-
-pub spelled_short : (w out : List ℕ) (n : ℕ) → stored.fitting w ≡ true → Written w out n → n ≤ 255
-spelled_short w out n h g = let k : length w ≤ 255 = fitting-short w h in omega (arith, g.size)
-
--- lines that are being put behind line `from` of a store: those that are left go behind line `b`
+-- lines that are put one after another, with those that are left
 pub record Putting (all : List (List ℕ)) (start now : Store) (from b : ℕ) (left : List (List ℕ)) : Type 0 where
   pub lines : take b (seen_lines now) ++ (map created left ++ drop b (seen_lines now))
       ≡ take from (seen_lines start) ++ (map created all ++ drop from (seen_lines start))
@@ -82,9 +74,36 @@ putting_more all start now next from b l left p e c =
       capacity = c ∙ p.capacity;
     }
 
-pub putting_over : (all : List (List ℕ)) (start now : Store) (from b : ℕ) → Putting all start now from b []
-    → seen_lines now ≡ take from (seen_lines start) ++ (map created all ++ drop from (seen_lines start))
-putting_over all start now from b p = sym (take-append-drop b (seen_lines now)) ∙ p.lines
+-- the same, with what an iterator has left
+pub record Left (all : List (List ℕ)) (start now : Store) (from b : ℕ) (rest : List (Option (ArrayVec ℕ))) : Type 0 where
+  pub lines : List (List ℕ)
+  pub rest-is : rest ≡ map line_of lines
+  pub putting : Putting all start now from b lines
+
+-- the first of those lines, and the others
+pub record Next (all : List (List ℕ)) (start now : Store) (from b : ℕ) (first : Option (ArrayVec ℕ)) (rest : List (Option (ArrayVec ℕ))) : Type 0 where
+  pub line : List ℕ
+  pub others : List (List ℕ)
+  pub first-is : first ≡ Some (record { items = line })
+  pub rest-is : rest ≡ map line_of others
+  pub fits : stored.fitting line ≡ true
+  pub putting : Putting all start now from b (line ∷ others)
+
+module _ (all : List (List ℕ)) (start now : Store) (from b : ℕ) where
+  first_put : (first : Option (ArrayVec ℕ)) (rest : List (Option (ArrayVec ℕ))) (lines : List (List ℕ)) → map line_of lines ≡ first ∷ rest
+      → Putting all start now from b lines → Next all start now from b first rest
+  first_put first rest [] e p = absurd (let z : ◌≡◌ {A = ℕ} 0 1 = cc in omega arith)
+  first_put first rest (l ∷ ls) e p =
+      let f : stored.fitting l ≡ true = (and_parts (stored.fitting l) (all_fit ls) p.fits).0 in
+      let h : first ≡ line_of l = cc in
+      record { line = l; others = ls; first-is = h ∙ spelled_out l f; rest-is = cc; fits = f; putting = p }
+
+  pub next_put : (now_left : List (Option (ArrayVec ℕ))) (first : Option (ArrayVec ℕ)) (rest : List (Option (ArrayVec ℕ))) → Left all start now from b now_left
+      → now_left ≡ first ∷ rest → Next all start now from b first rest
+  next_put now_left first rest i e = first_put first rest i.lines (sym i.rest-is ∙ e) i.putting
+
+pub same_items : (v : ArrayVec ℕ) (w : List ℕ) → Some v ≡ Some (record { items = w }) → v.items ≡ w
+same_items v w e = let h : v ≡ record { items = w } = cc in ap (λ (x : ArrayVec ℕ). x.items) h
 
 -- one line rewritten
 
@@ -115,12 +134,6 @@ around t n h =
 module _ (S : List Line) (n : ℕ) (h : n < length S) where
   gone_is : take (n + 1 - 1) S ++ drop (n + 1) S ≡ take n S ++ drop (n + 1) S
   gone_is = let e : n + 1 - 1 ≡ n = omega arith in ap (λ k. take k S ++ drop (n + 1) S) e
-
-  pub gone_front : take n (take (n + 1 - 1) S ++ drop (n + 1) S) ≡ take n S
-  gone_front = ap (λ ls. take n ls) gone_is ∙ take_at (take n S) (drop (n + 1) S) n (length-take-le n S (omega arith))
-
-  pub gone_rest : drop n (take (n + 1 - 1) S ++ drop (n + 1) S) ≡ drop (n + 1) S
-  gone_rest = ap (λ ls. drop n ls) gone_is ∙ drop_at (take n S) (drop (n + 1) S) n (length-take-le n S (omega arith))
 
   pub length-gone : length (take (n + 1 - 1) S ++ drop (n + 1) S) + 1 ≡ length S
   length-gone = ap (λ ls. length ls + 1) gone_is ∙ omega (arith, length-append (take n S) (drop (n + 1) S), length-take-le n S (omega arith), length-drop (n + 1) S)

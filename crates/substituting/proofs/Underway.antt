@@ -1,7 +1,8 @@
 -- A text of which the lines of a range are rewritten one after another.
-use Rattle.std.proofs.Common.{◌≡◌, ℕ, zero, suc, ◌+◌, ◌-◌, ◌<◌, ◌≤◌, Bool, true, false, ◌&&◌, leb, List, [], ◌∷◌, ◌++◌, map, length, get_or, take, drop, sym, refl, ap, ◌∙◌, add-one, arith}
+use Rattle.std.proofs.Common.{◌≡◌, ℕ, zero, suc, ◌+◌, ◌-◌, ◌<◌, ◌≤◌, Bool, true, false, ◌&&◌, leb, List, [], ◌∷◌, ◌++◌, map, length, get_or, take, drop, sym, refl, ap, ◌∙◌, subst, add-one, arith}
 use Rattle.std.proofs.lemmas.List.{append-nil, append_assoc, length-append, length-map, length-take-le, length-drop, take_at, drop_at, drop-drop, drop_more, take-append-drop, take_rest, get_or-append-add, get_or-drop}
 use Rattle.std.proofs.lemmas.Bool.{and_parts}
+use Rattle.std.proofs.Math.Seq.{take-add}
 use Rattle.lines.specs.Line as stored
 use Rattle.lines.specs.Store.{Store, line_at}
 use Rattle.command.specs.Replacements.{Bit, bits_of}
@@ -11,7 +12,7 @@ use Rattle.command.specs.View.{substitution_view}
 use Rattle.matching.specs.declared.answer.Match.{Match}
 use Rattle.ranges.specs.declared.range.Range.{Range}
 use Rattle.ranges.specs.Spans.{span_of}
-use Rattle.rules.specs.Addresses.{Range as Span, to}
+use Rattle.rules.specs.Addresses.{Range as Span}
 use Rattle.lines.specs.Line.{all_fit}
 use Rattle.rules.specs.Doing.{texts_of}
 use Rattle.rules.specs.Effects.{rewritten}
@@ -37,16 +38,14 @@ placed-news : (L : List Line) (ts : List (List ℕ)) → placed created L (news 
 placed-news L [] = refl
 placed-news L (t ∷ ts) = ap (λ r. created t ∷ r) (placed-news L ts)
 
-first-and_more : (m : ℕ) (xs : List Line) → 1 ≤ length xs → take 1 xs ++ take m (drop 1 xs) ≡ take (suc m) xs
-first-and_more m [] h = absurd (omega arith)
-first-and_more m (x ∷ xs) h = refl
-
 placed-span : (m i : ℕ) (L : List Line) → i + m ≤ length L → placed created L (span (suc i) m) ≡ take m (drop i L)
 placed-span zero i L h = refl
 placed-span (suc m) i L h =
     let e : drop 1 (drop i L) ≡ drop (suc i) L = drop-drop 1 i L ∙ ap (λ n. drop n L) (add-one i) in
+    let n : 1 + m ≡ suc m = omega arith in
     ap (λ r. take 1 (drop i L) ++ r) (placed-span m (suc i) L (omega arith) ∙ ap (λ r. take m r) (sym e))
-    ∙ first-and_more m (drop i L) (omega (arith, length-drop i L))
+    ∙ sym (take-add 1 m (drop i L))
+    ∙ ap (λ k. take k (drop i L)) n
 
 placed_one : (i : ℕ) (L : List Line) (d : Line) → i < length L → placed created L (old (i + 1) ∷ []) ≡ get_or L i d ∷ []
 placed_one i L d h =
@@ -127,10 +126,10 @@ module _ (s : Substitution) (r : Span) (start : Store) where
         sym (length-map now.lines seen) ∙ ap length p.lines
         ∙ omega (arith, length-append p.front (drop i (seen_lines start)), length-drop i (seen_lines start), p.done)
 
-    pub present_now : n < length now.lines
+    present_now : n < length now.lines
     present_now = omega (arith, length_now)
 
-    pub next-line : seen (line_at now (n + 1)) ≡ get_or (seen_lines start) i (seen stored.blank)
+    next-line : seen (line_at now (n + 1)) ≡ get_or (seen_lines start) i (seen stored.blank)
     next-line =
         let d : Line = seen stored.blank in
         let z : n ≡ length p.front + 0 = omega (arith, p.done) in
@@ -156,7 +155,7 @@ module _ (s : Substitution) (r : Span) (start : Store) where
           ∙ ap (λ x. x ++ placed created S more) (placed_for s i S d here)))
           ∙ p.whole
 
-      pub fits_next : all_fit (texts_of (placed created (seen_lines start) (rewritten s r 1 (seen_lines start)))) ≡ true
+      fits_next : all_fit (texts_of (placed created (seen_lines start) (rewritten s r 1 (seen_lines start)))) ≡ true
           → all_fit (texts_of (lines_for s (seen (line_at now (n + 1))))) ≡ true
       fits_next f =
           let made : List Line = lines_for s (seen (line_at now (n + 1))) in
@@ -165,7 +164,7 @@ module _ (s : Substitution) (r : Span) (start : Store) where
           let b = sym (all_fit_append made more) ∙ (and_parts (all_fit (texts_of p.front)) (all_fit (texts_of (made ++ more))) a).1 in
           (and_parts (all_fit (texts_of made)) (all_fit (texts_of more)) b).0
 
-      pub room_next : length (placed created (seen_lines start) (rewritten s r 1 (seen_lines start))) ≤ start.capacity
+      room_next : length (placed created (seen_lines start) (rewritten s r 1 (seen_lines start))) ≤ start.capacity
           → length now.lines + length (lines_for s (seen (line_at now (n + 1)))) ≤ now.capacity + 1
       room_next f =
           let S : List Line = seen_lines start in
@@ -185,7 +184,7 @@ module _ (s : Substitution) (r : Span) (start : Store) where
             p.capacity,
           )
 
-      pub underway_next : (next : Store) (k : ℕ)
+      underway_next : (next : Store) (k : ℕ)
           → seen_lines next ≡ take n (seen_lines now) ++ (lines_for s (seen (line_at now (n + 1))) ++ drop (n + 1) (seen_lines now))
           → next.capacity ≡ now.capacity → k ≡ n + length (lines_for s (seen (line_at now (n + 1))))
           → Underway s r start next (i + 1) k
@@ -219,15 +218,45 @@ module _ (s : Substitution) (r : Span) (start : Store) where
       ∙ take_rest S i in
       p.lines ∙ ap (λ x. p.front ++ x) (sym e) ∙ p.whole
 
--- a range by the number of lines in front of it
-abbrev pub span_behind : Range → Span
-span_behind range = to (range.first - 1 + 1) range.last
+-- line n of the range is the next one
+pub record Turn (s : Substitution) (r : Span) (start now : Store) (n b : ℕ) : Type 0 where
+  pub under : Underway s r start now (n - 1) b
+  pub some : 1 ≤ n
+  pub here : n ≤ length (seen_lines start)
+  pub low : r.first ≤ n
+  pub high : n ≤ r.final
 
-pub same_after : (s : SubstitutionCode) (range : Range) (t : Store)
-    → placed created (seen_lines t) (rewritten (substitution_view s) (span_behind range) 1 (seen_lines t)) ≡ after s range t
-same_after s range t =
-    let e : range.first - 1 + 1 ≡ range.first = omega (arith, range.some) in
-    ap (λ k. placed created (seen_lines t) (rewritten (substitution_view s) (to k range.last) 1 (seen_lines t))) e
+pub turn_of : (s : Substitution) (range : Range) (start now : Store) (n b : ℕ) → Underway s (span_of range) start now (n - 1) b
+    → range.count ≡ length start.lines → range.first ≤ n → n ≤ range.last → Turn s (span_of range) start now n b
+turn_of s range start now n b p count low high =
+    let k : length (seen_lines start) ≡ length start.lines = length-map start.lines seen in
+    record { under = p; some = omega (arith, range.some); here = omega (arith, range.within); low = low; high = high }
+
+module _ (s : Substitution) (r : Span) (start now : Store) (n b : ℕ) (k : Turn s r start now n b) where
+  here_now : n - 1 < length (seen_lines start)
+  here_now = omega (arith, k.some, k.here)
+
+  low_now : r.first ≤ n - 1 + 1
+  low_now = omega (arith, k.low)
+
+  high_now : n - 1 + 1 ≤ r.final
+  high_now = omega (arith, k.some, k.high)
+
+  pub fits_turn : all_fit (texts_of (placed created (seen_lines start) (rewritten s r 1 (seen_lines start)))) ≡ true
+      → all_fit (texts_of (lines_for s (seen (line_at now (b + 1))))) ≡ true
+  fits_turn f = fits_next s r start now (n - 1) b k.under here_now low_now high_now f
+
+  pub room_turn : length (placed created (seen_lines start) (rewritten s r 1 (seen_lines start))) ≤ start.capacity
+      → length now.lines + length (lines_for s (seen (line_at now (b + 1)))) ≤ now.capacity + 1
+  room_turn f = room_next s r start now (n - 1) b k.under here_now low_now high_now f
+
+  pub under_turn : (next : Store) (j : ℕ)
+      → seen_lines next ≡ take b (seen_lines now) ++ (lines_for s (seen (line_at now (b + 1))) ++ drop (b + 1) (seen_lines now))
+      → next.capacity ≡ now.capacity → j ≡ b + length (lines_for s (seen (line_at now (b + 1))))
+      → Underway s r start next (n + 1 - 1) j
+  under_turn next j e c d =
+      let behind : n - 1 + 1 ≡ n + 1 - 1 = omega (arith, k.some) in
+      subst (λ i. Underway s r start next i j) behind (underway_next s r start now (n - 1) b k.under here_now low_now high_now next j e c d)
 
 pub front_kept : (s : SubstitutionCode) (range : Range) (t : Store) → range.count ≡ length t.lines
     → take (range.first - 1) (after s range t) ≡ take (range.first - 1) (seen_lines t)

@@ -1,33 +1,34 @@
--- A line that is being spelled out into a buffer.
-use Rattle.std.proofs.Common.{◌≡◌, ℕ, ◌+◌, ◌<◌, ◌≤◌, false, List, [], ◌∷◌, ◌++◌, length, sym, refl, ap, ◌∙◌, arith}
-use borrow.Rule.Slice.PartMut.{put_mid}
+-- A line that is being spelled out.
+use Rattle.std.proofs.Common.{◌≡◌, ℕ, ◌<◌, ◌≤◌, Bool, true, false, leb, cond, List, [], ◌∷◌, ◌++◌, length, Some, None, Option, IfSome, sym, refl, ap, ◌∙◌, subst, arith}
 use Rattle.std.proofs.lemmas.List.{length-append}
-use Rattle.std.proofs.lemmas.Slice.{take-put_mid}
+use Rattle.std.proofs.lemmas.Bool.{le-leb, lt-leb, leb-false}
+use Rattle.arrayvec.specs.ArrayVec.{ArrayVec}
 use Rattle.matching.specs.declared.answer.Match.{Match}
 use Rattle.command.specs.Replacements.{Bit, the_match, the_byte, the_break, bits_of}
 use Rattle.command.specs.Said.{Substitution}
 use Rattle.rules.specs.Patterns.{matches_from, in_front, filled, replaced}
 use Rattle.substituting.specs.declared.cursor.Cursor.{Cursor}
 use Rattle.substituting.specs.declared.cursor.Step.{Step}
-use Rattle.substituting.specs.Spelling.{part, lines_left, ahead, is_last, Placed, weight, Stepped, Written, first_of}
-use Rattle.substituting.proofs.Through.{front_front, front-replaced, left_going}
+use Rattle.substituting.specs.Places.{Placed}
+use Rattle.substituting.specs.Spelling.{line_of, lengthened, lines_from, lines_left, ahead, Stepped}
+use Rattle.substituting.proofs.Through.{front_front, front-replaced, left_is}
 
 -- bytes added to a line
 
-pub too_long : (w a out o : List ℕ) (n : ℕ) → 255 < n + length a → Written w out n → Written (w ++ a) o 256
-too_long w a out o n h g =
-    let e : length (w ++ a) ≡ length w + length a = length-append w a in
-    record { size = omega (arith, g.size); bytes = λ k. absurd (omega (arith, g.size)) }
+pub line_long : (w : List ℕ) → 255 < length w → line_of w ≡ None
+line_long w h = ap (λ b. cond b (Some (record { items = w })) None) (lt-leb (length w) 255 h)
 
-pub put_in : (w a out : List ℕ) (n k : ℕ) → length out ≡ 255 → n + length a ≤ 255 → Written w out n
-    → Written (w ++ a) (put_mid n k out a) (n + length a)
-put_in w a out n k full h g =
-    let e : length (w ++ a) ≡ length w + length a = length-append w a in
-    let short : length w ≤ 255 = omega (arith, g.size) in
-    record {
-      size = omega (arith, g.size);
-      bytes = λ _. take-put_mid n k out a (n + length a) refl (omega arith) ∙ ap (λ x. x ++ a) (g.bytes short);
-    }
+pub line_short : (w : List ℕ) → length w ≤ 255 → line_of w ≡ Some (record { items = w })
+line_short w h = ap (λ b. cond b (Some (record { items = w })) None) (le-leb (length w) 255 h)
+
+lengthened-line : (w a : List ℕ) → lengthened (line_of w) a ≡ line_of (w ++ a)
+lengthened-line w a = by (leb (length w) 255) refl
+  where
+    by : (b : Bool) → leb (length w) 255 ≡ b → lengthened (cond b (Some (record { items = w })) None) a ≡ line_of (w ++ a)
+    by true h = refl
+    by false h =
+        let long : 255 < length w = leb-false (length w) 255 h in
+        sym (line_long (w ++ a) (omega (arith, length-append w a)))
 
 -- the lines that are left, with nothing in front
 
@@ -38,60 +39,47 @@ front-filled (the_match ∷ bits) m r t at ms = front_front [] m _
 front-filled (the_byte b ∷ bits) m r t at ms = front_front [] (b ∷ []) _
 front-filled (the_break ∷ bits) m r t at ms = refl
 
-pub front_left : (s : Substitution) (t : List ℕ) (c : Cursor) → c.over ≡ false → in_front [] (lines_left s t c) ≡ lines_left s t c
-front_left s t c going =
-    let e = left_going s t c going in
+front_left : (s : Substitution) (t : List ℕ) (c : Cursor) → in_front [] (lines_from s t c) ≡ lines_from s t c
+front_left s t c =
+    let e = left_is s t c in
     ap (λ ls. in_front [] ls) e
-    ∙ front-filled (bits_of c.bits.now) (part t c.run.start c.run.end) (bits_of s.replacement) t c.at
-    (matches_from c.searches s.sought t c.from c.last)
+    ∙ front-filled (bits_of c.bits.now) c.run.now (bits_of s.replacement) t c.at (matches_from c.searches s.sought t c.from c.last)
     ∙ sym e
 
 -- the line up to a place: with it in front, what is left there is what was left at the line's start
-pub record Partly (s : Substitution) (t : List ℕ) (start c : Cursor) (out : List ℕ) (size : ℕ) : Type 0 where
+pub record Partly (s : Substitution) (t : List ℕ) (start c : Cursor) (out : Option (ArrayVec ℕ)) : Type 0 where
   pub line : List ℕ
-  pub lines : in_front line (lines_left s t c) ≡ lines_left s t start
-  pub written : Written line out size
-  pub small : size ≤ 256
+  pub lines : in_front line (lines_from s t c) ≡ lines_from s t start
+  pub written : out ≡ line_of line
   pub placed : Placed (length t) c
-  pub going : c.over ≡ false
-  pub light : weight s c ≤ weight s start
 
 module _ (s : Substitution) (t : List ℕ) (start : Cursor) where
-  pub begun : (out : List ℕ) → start.over ≡ false → Placed (length t) start → Partly s t start start out 0
-  begun out going placed = record {
+  pub begun : (v : ArrayVec ℕ) → v.items ≡ [] → Placed (length t) start → Partly s t start start (Some v)
+  begun v e placed = record {
     line = [];
-    lines = front_left s t start going;
-    written = record { size = refl; bytes = λ _. refl };
-    small = omega arith;
+    lines = front_left s t start;
+    written = ap (λ (xs : List ℕ). Some (record { items = xs })) e;
     placed = placed;
-    going = going;
-    light = omega arith;
   }
 
-  -- a token that adds some bytes
-  pub continued : (c : Cursor) (out o a : List ℕ) (n k : ℕ) (r : Step) → Partly s t start c out n → Stepped s t c r
-      → ((ls : List (List ℕ)) → ahead t r.token ls ≡ in_front a ls) → is_last r.token ≡ false
-      → ((w : List ℕ) → Written w out n → Written (w ++ a) o k) → k ≤ 256 → Partly s t start r.cursor o k
-  continued c out o a n k r p q adds on more small = record {
-    line = p.line ++ a;
-    lines = sym (front_front p.line a (lines_left s t r.cursor))
-        ∙ ap (λ ls. in_front p.line ls) (sym (q.lines ∙ adds (lines_left s t r.cursor)))
-        ∙ p.lines;
-    written = more p.line p.written;
-    small = small;
-    placed = q.placed;
-    going = q.over ∙ on;
-    light = omega (arith, p.light, q.falls);
-  }
+  module _ (c : Cursor) (out : Option (ArrayVec ℕ)) (r : Step) (p : Partly s t start c out) (q : Stepped s t c r) where
+    -- the lines from the start on, by a token's bytes
+    added : (a : List ℕ) → ((ls : List (List ℕ)) → ahead r.token ls ≡ in_front a ls)
+        → in_front (p.line ++ a) (lines_left s t r.next) ≡ lines_from s t start
+    added a adds =
+        sym (front_front p.line a (lines_left s t r.next))
+        ∙ ap (λ ls. in_front p.line ls) (sym (q.lines ∙ adds (lines_left s t r.next)))
+        ∙ p.lines
 
-  -- a token that ends the line, with some bytes more
-  pub line-ends : (c : Cursor) (out a : List ℕ) (n : ℕ) (r : Step) (p : Partly s t start c out n) → Stepped s t c r
-      → ((ls : List (List ℕ)) → ahead t r.token ls ≡ a ∷ ls)
-      → (p.line ++ a) ∷ lines_left s t r.cursor ≡ lines_left s t start
-  line-ends c out a n r p q ends = ap (λ ls. in_front p.line ls) (sym (q.lines ∙ ends (lines_left s t r.cursor))) ∙ p.lines
+    longer : (o : Option (ArrayVec ℕ)) (a : List ℕ) → o ≡ lengthened out a → o ≡ line_of (p.line ++ a)
+    longer o a e = e ∙ ap (λ (x : Option (ArrayVec ℕ)). lengthened x a) p.written ∙ lengthened-line p.line a
 
-pub first_is : (l : List ℕ) (ls all : List (List ℕ)) → l ∷ ls ≡ all → l ≡ first_of all
-first_is l ls all e = ap first_of e
-
-pub first-and_rest : (l : List ℕ) (ls all : List (List ℕ)) → l ∷ ls ≡ all → all ≡ first_of all ∷ ls
-first-and_rest l ls all e = sym e ∙ ap (λ x. x ∷ ls) (first_is l ls all e)
+    -- a token that adds some bytes
+    pub continued : (n : Cursor) (o : Option (ArrayVec ℕ)) (a : List ℕ) → ((ls : List (List ℕ)) → ahead r.token ls ≡ in_front a ls)
+        → r.next ≡ Some n → o ≡ lengthened out a → Partly s t start n o
+    continued n o a adds next e = record {
+      line = p.line ++ a;
+      lines = ap (λ (k : Option Cursor). in_front (p.line ++ a) (lines_left s t k)) (sym next) ∙ added a adds;
+      written = longer o a e;
+      placed = subst (λ (k : Option Cursor). IfSome k (Placed (length t))) next q.placed;
+    }

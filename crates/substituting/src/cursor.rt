@@ -1,12 +1,11 @@
 // A place in the lines that a text becomes.
-use matching::Match;
 
 #[derive(Clone, Copy)]
 pub struct Cursor<'a> {
     // What is left of the replacement of a match.
     pub bits: &'a [u8],
-    // That match.
-    pub run: Match,
+    // The bytes of that match.
+    pub run: &'a [u8],
     // The place up to which the text is used up.
     pub at: usize,
     // The place from which the next match is sought.
@@ -15,24 +14,20 @@ pub struct Cursor<'a> {
     pub last: Option<usize>,
     // How many searches may follow.
     pub searches: usize,
-    // Whether the last line is spelled out.
-    pub over: bool,
 }
 
 // What comes next of a line.
 #[derive(Clone, Copy)]
-pub enum Token {
-    // The bytes of the text from a place to another.
-    Run(usize, usize),
+pub enum Token<'a> {
+    Run(&'a [u8]),
     Byte(u8),
     // The end of a line that has one behind it.
     Break,
-    // The bytes of the text from a place on, and the end of the last line.
-    Last(usize),
 }
 
+// A token, and the place behind it: none behind the end of the last line.
 #[derive(Clone, Copy)]
 pub struct Step<'a> {
-    pub token: Token,
-    pub cursor: Cursor<'a>,
+    pub token: Token<'a>,
+    pub next: Option<Cursor<'a>>,
 }

@@ -3,30 +3,25 @@ ghost use Rattle.std.specs.Prelude.{◌≡◌, ◌≤◌, length, take, is_some,
 ghost use Rattle.lines.specs.Store.{line_at};
 ghost use Rattle.command.specs.View.{sought_view};
 ghost use Rattle.rules.specs.Patterns.{matches};
-ghost use Rattle.substituting.specs.Spelling.{ReadFrom};
 
-use crate::search::{Reading, search};
-use command::said::Sought;
+use crate::line::Line;
+use crate::rule::Rule;
+use lines::line::LINE_MAX;
 use lines::store::LineStore;
 
-// Copies line `n` to the start of `line` and answers its size, if it is a hit.
-pub fn copy_hit<T: LineStore>(
-    text: &T,
-    n: usize,
-    reading: &Reading,
-    sought: Sought<'_>,
-    line: &mut [u8],
-) -> Option<usize>
-    requires present { (1 ≤ n) × (n ≤ length (T.LineStore.meaning text.now).lines) }
-    requires reading { ReadFrom reading.now sought }
-    requires full { length line.old ≡ 255 }
-    ensures hit { is_some result ≡ matches (sought_view sought.entry) (line_at (T.LineStore.meaning text.now) n).text }
-    ensures line { IfSome result (λ size. (size ≤ 255) × (take size line.new ≡ (line_at (T.LineStore.meaning text.now) n).text)) }
-{
-    let size = copy_line(text, n, line);
-    match search(reading, sought, &line[0..size], 0) {
-        Some(_) => Some(size),
-        None => None,
+impl Rule<'_> {
+    // The text of line `n`, if it is a hit.
+    pub fn hit<T: LineStore>(&self, text: &T, n: usize) -> Option<Line>
+        requires { (1 ≤ n) × (n ≤ length (T.LineStore.meaning text.now).lines) }
+        ensures hit { is_some result ≡ matches (sought_view self.now.substitution.sought) (line_at (T.LineStore.meaning text.now) n).text }
+        ensures line { IfSome result (λ line. line.items ≡ (line_at (T.LineStore.meaning text.now) n).text) }
+    {
+        let mut buffer = [0u8; LINE_MAX];
+        let size = copy_line(text, n, &mut buffer);
+        let mut line = Line::from(buffer);
+        line.truncate(size);
+        self.search(&line, 0)?;
+        Some(line)
     }
 }
 

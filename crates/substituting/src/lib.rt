@@ -3,8 +3,9 @@
 
 mod cursor;
 mod hits;
+mod line;
 pub mod reckoning;
 pub mod rewriting;
-mod search;
+mod rule;
 mod spelling;
 mod stepping;

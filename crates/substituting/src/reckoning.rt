@@ -1,28 +1,33 @@
 // What a substitution would make of a text, before anything is altered.
-ghost use Rattle.std.specs.Prelude.{◌≡◌, ℕ, ◌+◌, ◌≤◌, min, true, List, length};
-ghost use Rattle.lines.specs.Line.{fitting, all_fit};
+ghost use Rattle.std.specs.Prelude.{◌≡◌, ℕ, ◌+◌, ◌≤◌, min, true, List, length, IfSome};
+ghost use Rattle.lines.specs.Line.{all_fit};
 ghost use Rattle.lines.specs.Store.{line_at};
 ghost use Rattle.command.specs.View.{substitution_view};
 ghost use Rattle.rules.specs.Doing.{texts_of};
 ghost use Rattle.rules.specs.Lines.{picked};
-ghost use Rattle.rules.specs.Patterns.{substituted};
-ghost use Rattle.rules.specs.Pieces.{news, last_new};
+ghost use Rattle.rules.specs.Pieces.{last_new};
 ghost use Rattle.rules.specs.Printing.{printed};
 ghost use Rattle.substituting.specs.Made.{pieces_of, after, pieces_for};
-ghost use Rattle.substituting.specs.Reckoning.{reckoned_new, reckoned_old, reckoned_pieces, none_reckoned};
-ghost use Rattle.substituting.specs.Spelling.{ReadFrom, Written};
+ghost use Rattle.substituting.specs.Reckoning.{number_of, reckoned_line, reckoned_old, reckoned_pieces, Right};
 
-use crate::hits::copy_hit;
-use crate::search::Reading;
-use crate::spelling::{next_line, start};
+use crate::line::Spelled;
+use crate::rule::Rule;
+use crate::spelling::Spelling;
 use command::said::Substitution;
-use lines::line::{LINE_MAX, fits_line};
+use lines::line::fits_line;
 use lines::store::{CAPACITY_MAX, LineStore};
-use patterns::Pattern;
 use ranges::range::Range;
 
 // What stands for every number of lines that no store holds.
 const TOO_MANY: usize = CAPACITY_MAX + 1;
+
+// A line that would be created.
+#[derive(Clone, Copy)]
+pub struct Created {
+    pub number: usize,
+    // How many bytes it prints as, if it fits.
+    pub size: usize,
+}
 
 #[derive(Clone, Copy)]
 pub struct Reckoned {
@@ -30,148 +35,86 @@ pub struct Reckoned {
     pub count: usize,
     // Whether each of them may be a line.
     pub fits: bool,
-    // The number of the last line created, 0 if none is.
-    pub last: usize,
-    // How many bytes that one prints as.
-    pub last_size: usize,
+    // The last line created, if any is.
+    pub last: Option<Created>,
 }
 
-// What the substitution would make of the text: how many lines, whether each would fit, the last one created and its size. Of more
-// than 4,096 lines, which no store holds, each number of a line or of lines past that is answered as 4,097.
+// What the substitution would make of the text: how many lines, whether each would fit, the last one created. Of more than
+// 4,096 lines, which no store holds, each number of a line or of lines past that is answered as 4,097.
 pub fn reckon<T: LineStore>(text: &T, range: Range, substitution: Substitution<'_>) -> Reckoned
     requires { range.count ≡ length (T.LineStore.meaning text.now).lines }
     ensures count { result.count ≡ min (length (after substitution.entry range (T.LineStore.meaning text.now))) 4097 }
     ensures fits { result.fits ≡ all_fit (texts_of (after substitution.entry range (T.LineStore.meaning text.now))) }
-    ensures last { result.last ≡ min (last_new 0 0 (pieces_of substitution.entry range (T.LineStore.meaning text.now))) 4097 }
+    ensures last { number_of result.last ≡ min (last_new 0 0 (pieces_of substitution.entry range (T.LineStore.meaning text.now))) 4097 }
+    ensures some { IfSome result.last (λ line. 1 ≤ line.number) }
     ensures within { last_new 0 0 (pieces_of substitution.entry range (T.LineStore.meaning text.now)) ≤ length (after substitution.entry range (T.LineStore.meaning text.now)) }
-    ensures exact { result.count ≤ 4096 → (result.count ≡ length (after substitution.entry range (T.LineStore.meaning text.now))) × (result.last ≡ last_new 0 0 (pieces_of substitution.entry range (T.LineStore.meaning text.now))) }
-    ensures size { result.fits ≡ true → result.count ≤ 4096 → 1 ≤ result.last → result.last_size ≡ length (printed (picked (after substitution.entry range (T.LineStore.meaning text.now)) result.last)) }
+    ensures exact { result.count ≤ 4096 → (result.count ≡ length (after substitution.entry range (T.LineStore.meaning text.now))) × (number_of result.last ≡ last_new 0 0 (pieces_of substitution.entry range (T.LineStore.meaning text.now))) }
+    ensures size { result.fits ≡ true → result.count ≤ 4096 → IfSome result.last (λ line. line.size ≡ length (printed (picked (after substitution.entry range (T.LineStore.meaning text.now)) line.number))) }
 {
-    let sought = substitution.sought;
-    let reading = Pattern::read(sought.delimiter, sought.part);
-    reckon_lines(text, range, &reading, substitution)
+    reckon_lines(text, range, &Rule::new(substitution))
 }
 
 // The same with the pattern. The lines in front of the range and behind it stay.
-fn reckon_lines<T: LineStore>(
-    text: &T,
-    range: Range,
-    reading: &Reading,
-    substitution: Substitution<'_>,
-) -> Reckoned
-    requires count { range.count ≡ length (T.LineStore.meaning text.now).lines }
-    requires reading { ReadFrom reading.now substitution.sought }
-    ensures { result ≡ reckoned_pieces none_reckoned (pieces_of substitution.entry range (T.LineStore.meaning text.now)) }
+fn reckon_lines<T: LineStore>(text: &T, range: Range, rule: &Rule<'_>) -> Reckoned
+    requires { range.count ≡ length (T.LineStore.meaning text.now).lines }
+    ensures { Right (after rule.now.substitution range (T.LineStore.meaning text.now)) (last_new 0 0 (pieces_of rule.now.substitution range (T.LineStore.meaning text.now))) result }
 {
     let mut sum = Reckoned {
         count: range.first - 1,
         fits: true,
-        last: 0,
-        last_size: 0,
+        last: None,
     };
-    for i in range.first - 1..range.last {
-        sum = reckon_line(sum, text, i + 1, reading, substitution);
+    for n in range.first..=range.last {
+        sum = sum.with_line(text, n, rule);
     }
     Reckoned {
-        count: (sum.count + (range.count - range.last)).min(TOO_MANY),
+        count: plus(sum.count, range.count - range.last),
         ..sum
     }
 }
 
-// A line more that is created.
-fn add_new(reckoned: Reckoned, out: &[u8], size: usize) -> Reckoned
-    requires full { length out.now ≡ 255 }
-    requires size { size ≤ 256 }
-    requires count { reckoned.count ≤ 4097 }
-    ensures { (w : List ℕ) → Written w out.now size → result ≡ reckoned_new reckoned w }
+// So many lines and some more.
+fn plus(count: usize, more: usize) -> usize
+    ensures { result ≡ min (count + more) 4097 }
 {
-    let count = one_more(reckoned.count);
-    let fits = fits_whole(out, size);
-    Reckoned {
-        count,
-        fits: reckoned.fits & fits,
-        last: count,
-        last_size: size + 1,
+    count.saturating_add(more).min(TOO_MANY)
+}
+
+impl Reckoned {
+    // With line `n` of a text, which is in the range.
+    fn with_line<T: LineStore>(self, text: &T, n: usize, rule: &Rule<'_>) -> Reckoned
+        requires { (1 ≤ n) × (n ≤ length (T.LineStore.meaning text.now).lines) }
+        ensures { result ≡ reckoned_pieces self (pieces_for (substitution_view rule.now.substitution) n (line_at (T.LineStore.meaning text.now) n).text) }
+    {
+        match rule.hit(text, n) {
+            None => self.with_old(),
+            Some(line) => Spelling::new(rule, &line).fold(self, Reckoned::with_new),
+        }
     }
-}
 
-// Whether a line in a buffer is no longer than a line may be and has no break in it.
-fn fits_whole(out: &[u8], size: usize) -> bool
-    requires full { length out.now ≡ 255 }
-    ensures { (w : List ℕ) → Written w out.now size → result ≡ fitting w }
-{
-    if size > LINE_MAX {
-        return false;
+    // With a line more that stays.
+    fn with_old(self) -> Reckoned
+        ensures { result ≡ reckoned_old self }
+    {
+        Reckoned {
+            count: plus(self.count, 1),
+            ..self
+        }
     }
-    fits_line(&out[0..size])
-}
 
-// A line more that stays.
-fn add_old(reckoned: Reckoned) -> Reckoned
-    requires { reckoned.count ≤ 4097 }
-    ensures { result ≡ reckoned_old reckoned }
-{
-    Reckoned {
-        count: one_more(reckoned.count),
-        ..reckoned
-    }
-}
-
-fn one_more(count: usize) -> usize
-    requires { count ≤ 4097 }
-    ensures { result ≡ min (count + 1) 4097 }
-{
-    (count + 1).min(TOO_MANY)
-}
-
-// The lines more that a text becomes.
-fn add_lines(
-    reckoned: Reckoned,
-    reading: &Reading,
-    substitution: Substitution<'_>,
-    text: &[u8],
-    out: &mut [u8],
-) -> Reckoned
-    requires reading { ReadFrom reading.now substitution.sought }
-    requires short { length text.now ≤ 255 }
-    requires full { length out.old ≡ 255 }
-    requires count { reckoned.count ≤ 4097 }
-    ensures value { result ≡ reckoned_pieces reckoned (news (substituted (substitution_view substitution.entry) text.now)) }
-    ensures count { result.count ≤ 4097 }
-{
-    let mut sum = reckoned;
-    let mut cursor = start(substitution, text);
-    while !cursor.over {
-        let line = next_line(reading, substitution, text, cursor, out);
-        sum = add_new(sum, out, line.size);
-        cursor = line.cursor;
-    }
-    sum
-}
-
-// Line `n` of a text more, which is in the range.
-fn reckon_line<T: LineStore>(
-    reckoned: Reckoned,
-    text: &T,
-    n: usize,
-    reading: &Reading,
-    substitution: Substitution<'_>,
-) -> Reckoned
-    requires present { (1 ≤ n) × (n ≤ length (T.LineStore.meaning text.now).lines) }
-    requires reading { ReadFrom reading.now substitution.sought }
-    requires count { reckoned.count ≤ 4097 }
-    ensures value { result ≡ reckoned_pieces reckoned (pieces_for (substitution_view substitution.entry) n (line_at (T.LineStore.meaning text.now) n).text) }
-    ensures count { result.count ≤ 4097 }
-{
-    let mut line = [0u8; LINE_MAX];
-    match copy_hit(text, n, reading, substitution.sought, &mut line) {
-        None => add_old(reckoned),
-        Some(size) => add_lines(
-            reckoned,
-            reading,
-            substitution,
-            &line[0..size],
-            &mut [0u8; LINE_MAX],
-        ),
+    // With a line more that is created.
+    fn with_new(self, line: Spelled) -> Reckoned
+        ensures { result ≡ reckoned_line self line }
+    {
+        let number = plus(self.count, 1);
+        let (fits, size) = match line {
+            Some(line) => (fits_line(&line), line.len() + 1),
+            None => (false, 0),
+        };
+        Reckoned {
+            count: number,
+            fits: self.fits & fits,
+            last: Some(Created { number, size }),
+        }
     }
 }

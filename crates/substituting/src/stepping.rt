@@ -1,135 +1,115 @@
 // A step through the lines that a text becomes.
-ghost use Rattle.std.specs.Prelude.{◌≡◌, ◌≤◌, false, [], length};
+ghost use Rattle.std.specs.Prelude.{◌≡◌, ◌≤◌, false, [], length, MatchOption, Some};
 ghost use Rattle.command.specs.Replacements.{bits_of};
-ghost use Rattle.command.specs.View.{substitution_view};
-ghost use Rattle.substituting.specs.Spelling.{ReadFrom, Placed, Stepped, token_of, empty_after, finishing, passing, replacing};
+ghost use Rattle.command.specs.View.{substitution_view, sought_view};
+ghost use Rattle.rules.specs.Patterns.{found, matches_from};
+ghost use Rattle.substituting.specs.Places.{Placed};
+ghost use Rattle.substituting.specs.Spelling.{Stepped, Behind, Found, token_of, empty_after, passing};
 
 use crate::cursor::{Cursor, Step, Token};
-use crate::search::{Reading, search};
+use crate::spelling::Spelling;
 use command::replacement::{Bit, next_bit};
-use command::said::Substitution;
 use matching::Match;
 
-// The next token, and the place behind it.
-pub fn step<'a>(
-    reading: &Reading,
-    substitution: Substitution<'a>,
-    text: &[u8],
-    cursor: Cursor<'a>,
-) -> Step<'a>
-    requires reading { ReadFrom reading.now substitution.sought }
-    requires short { length text.now ≤ 255 }
-    requires placed { Placed (length text.now) cursor }
-    requires going { cursor.over ≡ false }
-    ensures { Stepped (substitution_view substitution.entry) text.now cursor.entry result }
-{
-    match next_bit(cursor.bits) {
-        Some((bit, bits)) => Step {
-            token: token_of(bit, cursor.run),
-            cursor: Cursor { bits, ..cursor },
-        },
-        None => seek(reading, substitution, text, cursor),
+impl<'a> Spelling<'a> {
+    // The next token, and the place behind it.
+    pub fn step(&self, cursor: Cursor<'a>) -> Step<'a>
+        requires placed { Placed (length self.now.text.now) cursor }
+        ensures { Stepped (substitution_view self.now.rule.now.substitution) self.now.text.now cursor.entry result }
+    {
+        match next_bit(cursor.bits) {
+            Some((bit, bits)) => Step {
+                token: token_of(bit, cursor.run),
+                next: Some(Cursor { bits, ..cursor }),
+            },
+            None => self.seek(cursor),
+        }
+    }
+
+    // The next token where no replacement is being filled in: the text up to the next match, or to its end.
+    fn seek(&self, cursor: Cursor<'a>) -> Step<'a>
+        requires placed { Placed (length self.now.text.now) cursor }
+        requires filled { bits_of cursor.bits.now ≡ [] }
+        ensures { Stepped (substitution_view self.now.rule.now.substitution) self.now.text.now cursor.entry result }
+    {
+        let at = cursor.at;
+        let Some(run) = self.next_match(cursor) else {
+            return Step {
+                token: Token::Run(&self.text[at..]),
+                next: None,
+            };
+        };
+        if is_empty_again(cursor.last, run) {
+            return Step {
+                token: Token::Run(&[]),
+                next: Some(pass(cursor, run)),
+            };
+        }
+        let start = run.start;
+        Step {
+            token: Token::Run(&self.text[at..start]),
+            next: Some(self.replace(cursor, run)),
+        }
+    }
+
+    // The next match, if one more may be sought and there is one.
+    fn next_match(&self, cursor: Cursor<'a>) -> Option<Match>
+        ensures { Found (sought_view self.now.rule.now.substitution.sought) self.now.text.now cursor.entry result }
+    {
+        if cursor.searches == 0 {
+            return None;
+        }
+        self.rule.search(self.text, cursor.from)
+    }
+
+    // Behind a match that counts, with its replacement to be filled in. Behind an empty one the search goes on a byte later.
+    fn replace(&self, cursor: Cursor<'a>, run: Match) -> Cursor<'a>
+        requires some { 1 ≤ cursor.searches }
+        requires order { run.start ≤ run.end }
+        requires inside { run.end ≤ length self.now.text.now }
+        ensures { Behind (substitution_view self.now.rule.now.substitution) self.now.text.now cursor.entry run result }
+    {
+        let rule = self.rule;
+        let Match { start, end } = run;
+        Cursor {
+            bits: rule.substitution.replacement,
+            run: &self.text[start..end],
+            at: end,
+            from: if start == end { start + 1 } else { end },
+            last: Some(end),
+            searches: cursor.searches - 1,
+        }
     }
 }
 
 // A bit of the replacement of a match.
-fn token_of(bit: Bit, run: Match) -> Token
-    ensures { result ≡ token_of bit run }
+fn token_of<'a>(bit: Bit, run: &'a [u8]) -> Token<'a>
+    ensures { result ≡ token_of bit run.entry }
 {
     match bit {
-        Bit::TheMatch => Token::Run(run.start, run.end),
+        Bit::TheMatch => Token::Run(run),
         Bit::TheByte(byte) => Token::Byte(byte),
         Bit::TheBreak => Token::Break,
     }
-}
-
-// The next token where no replacement is being filled in: the text up to the next match, or to its end.
-fn seek<'a>(
-    reading: &Reading,
-    substitution: Substitution<'a>,
-    text: &[u8],
-    cursor: Cursor<'a>,
-) -> Step<'a>
-    requires reading { ReadFrom reading.now substitution.sought }
-    requires short { length text.now ≤ 255 }
-    requires placed { Placed (length text.now) cursor }
-    requires going { cursor.over ≡ false }
-    requires filled { bits_of cursor.bits.now ≡ [] }
-    ensures { Stepped (substitution_view substitution.entry) text.now cursor.entry result }
-{
-    if cursor.searches == 0 {
-        return finish(cursor);
-    }
-    let Some(run) = search(reading, substitution.sought, text, cursor.from) else {
-        return finish(cursor);
-    };
-    if is_empty_again(cursor.last, run) {
-        return pass(cursor, run);
-    }
-    replace(substitution, cursor, run)
 }
 
 // Whether a match is empty and at the end of the last one: then it does not count.
 fn is_empty_again(last: Option<usize>, run: Match) -> bool
     ensures { result ≡ empty_after last run }
 {
-    match last {
-        Some(end) => run.start == run.end && end == run.start,
-        None => false,
-    }
+    last.is_some_and(|end| run.start == run.end && end == run.start)
 }
 
-// No match follows: the rest of the text ends the last line.
-fn finish(cursor: Cursor<'_>) -> Step<'_>
-    ensures { result ≡ finishing cursor.entry }
-{
-    Step {
-        token: Token::Last(cursor.at),
-        cursor: Cursor {
-            over: true,
-            ..cursor
-        },
-    }
-}
-
-// A match that does not count: the search goes on a byte later.
-fn pass(cursor: Cursor<'_>, run: Match) -> Step<'_>
+// Behind a match that does not count: the search goes on a byte later.
+fn pass(cursor: Cursor<'_>, run: Match) -> Cursor<'_>
     requires some { 1 ≤ cursor.searches }
     requires inside { run.start ≤ 255 }
     ensures { result ≡ passing cursor.entry run }
 {
-    Step {
-        token: Token::Run(cursor.at, cursor.at),
-        cursor: Cursor {
-            from: run.start + 1,
-            last: Some(run.start),
-            searches: cursor.searches - 1,
-            ..cursor
-        },
-    }
-}
-
-// A match that counts: the text in front of it, and then its replacement. Behind an empty match the search goes on a byte later.
-fn replace<'a>(substitution: Substitution<'a>, cursor: Cursor<'a>, run: Match) -> Step<'a>
-    requires some { 1 ≤ cursor.searches }
-    requires inside { run.start ≤ 255 }
-    ensures { result ≡ replacing substitution.entry cursor.entry run }
-{
-    let from = if run.start == run.end {
-        run.start + 1
-    } else {
-        run.end
-    };
-    Step {
-        token: Token::Run(cursor.at, run.start),
-        cursor: Cursor {
-            bits: substitution.replacement,
-            run,
-            at: run.end,
-            from,
-            last: Some(run.end),
-            searches: cursor.searches - 1,
-            over: false,
-        },
+    Cursor {
+        from: run.start + 1,
+        last: Some(run.start),
+        searches: cursor.searches - 1,
+        ..cursor
     }
 }

@@ -1,65 +1,46 @@
-use Rattle.std.proofs.Common.{◌≡◌, ◌+◌, ◌-◌, ◌<◌, ◌≤◌, List, length, ap, ◌∙◌, arith}
+use Rattle.std.proofs.Common.{◌≡◌, ◌-◌, List, length, take, ap, ◌∙◌, arith}
 use Rattle.std.proofs.lemmas.List.{length-map}
 use Rattle.command.specs.View.{substitution_view}
-use Rattle.lines.specs.Line.{all_fit}
-use Rattle.rules.specs.Doing.{texts_of}
+use Rattle.ranges.specs.Spans.{span_of}
 use Rattle.rules.specs.Lines.{Line, seen, seen_lines}
-use Rattle.substituting.proofs.Underway.{span_behind, same_after, underway_start, present_now, fits_next, room_next, underway_next, underway_over}
+use Rattle.substituting.proofs.Underway.{underway_start, underway_over, turn_of, fits_turn, room_turn, under_turn, front_kept}
 use Rattle.substituting.proofs.rewriting.rewrite_lines.Goals as goal
 
-pub loop-i-init : goal.loop-i-init
-loop-i-init g c =
+pub loop-init : goal.loop-init
+loop-init g c =
     let t = g.T.LineStore.meaning c.args.text.now in
     let range = c.args.range in
-    let n : length (seen_lines t) ≡ length t.lines = length-map t.lines seen in
-    underway_start (substitution_view c.args.substitution) (span_behind range) t (range.first - 1) (omega arith)
+    let m : length (seen_lines t) ≡ length t.lines = length-map t.lines seen in
+    underway_start (substitution_view c.args.rule.now.substitution) (span_of range) t (range.first - 1) (omega (arith, range.some))
     (omega (arith, range.order, range.within, c.requires.count))
 
-pub rewrite_line-done-requires : goal.rewrite_line-done-requires
-rewrite_line-done-requires g c =
-    let t = g.T.LineStore.meaning c.args.text.now in
-    let now = g.T.LineStore.meaning c.loop-i.text in
-    let range = c.args.range in
-    let s = substitution_view c.args.substitution in
-    let r = span_behind range in
-    let i = c.loop-i._i in
-    let k = c.loop-i.done in
-    let p = c.loop-i.invariant in
-    let n : length (seen_lines t) ≡ length t.lines = length-map t.lines seen in
-    let here : i < length (seen_lines t) = omega (arith, range.within, c.requires.count, c.loop-i-test.true) in
-    let low : range.first - 1 + 1 ≤ i + 1 = omega (arith, c.loop-i.auto) in
-    let high : i + 1 ≤ range.last = omega (arith, c.loop-i-test.true) in
-    let e = same_after c.args.substitution range t in
-    record {
-      present = present_now s r t now i k p here;
-      reading = c.requires.reading;
-      fits = fits_next s r t now i k p here low high (ap (λ (ls : List Line). all_fit (texts_of ls)) e ∙ c.requires.fits);
-      room = room_next s r t now i k p here low high (omega (arith, ap (λ (ls : List Line). length ls) e, c.requires.room));
-    }
+pub rewrite_line-done-requires-clause-fits : goal.rewrite_line-done-requires-clause-fits
+rewrite_line-done-requires-clause-fits g c =
+    let k = turn_of _ c.args.range _ _ c.loop.counter _ c.loop.invariant c.requires.count c.loop.auto.counter c.loop-test.true in
+    fits_turn _ _ _ _ _ _ k c.requires.fits
 
-pub loop-i-preserved : goal.loop-i-preserved
-loop-i-preserved g c =
-    let t = g.T.LineStore.meaning c.args.text.now in
-    let range = c.args.range in
-    let i = c.loop-i._i in
-    let n : length (seen_lines t) ≡ length t.lines = length-map t.lines seen in
-    let here : i < length (seen_lines t) = omega (arith, range.within, c.requires.count, c.loop-i-test.true) in
-    let low : range.first - 1 + 1 ≤ i + 1 = omega (arith, c.loop-i.auto) in
-    let high : i + 1 ≤ range.last = omega (arith, c.loop-i-test.true) in
+pub rewrite_line-done-requires-clause-room : goal.rewrite_line-done-requires-clause-room
+rewrite_line-done-requires-clause-room g c =
+    let k = turn_of _ c.args.range _ _ c.loop.counter _ c.loop.invariant c.requires.count c.loop.auto.counter c.loop-test.true in
+    room_turn _ _ _ _ _ _ k c.requires.room
+
+pub loop-preserved : goal.loop-preserved
+loop-preserved g c =
+    let k = turn_of _ c.args.range _ _ c.loop.counter _ c.loop.invariant c.requires.count c.loop.auto.counter c.loop-test.true in
     let d = c.rewrite_line-done.ensures in
-    underway_next (substitution_view c.args.substitution) (span_behind range) t (g.T.LineStore.meaning c.loop-i.text) i c.loop-i.done c.loop-i.invariant here low high
-    (g.T.LineStore.meaning c.rewrite_line-done.new.text) c.rewrite_line-done.result d.lines d.capacity d.done
+    under_turn _ _ _ _ _ _ k _ _ d.lines d.capacity d.done
 
-pub returns : goal.returns
-returns g c =
+pub returns-2 : goal.returns-2
+returns-2 g c =
     let t = g.T.LineStore.meaning c.args.text.now in
     let range = c.args.range in
-    let i = c.loop-i._i in
-    let n : length (seen_lines t) ≡ length t.lines = length-map t.lines seen in
-    let end : i ≤ range.last = omega (arith, c.loop-i.auto, range.order) in
+    let m : length (seen_lines t) ≡ length t.lines = length-map t.lines seen in
+    let k = turn_of _ c.args.range _ _ c.loop.counter _ c.loop.invariant c.requires.count c.loop.auto.counter c.loop-test.true in
+    let d = c.rewrite_line-done.ensures in
+    let p = under_turn _ _ _ _ _ _ k _ _ d.lines d.capacity d.done in
+    let e = underway_over _ _ _ _ _ _ p (omega arith) (omega (arith, range.within, c.requires.count)) in
     record {
-      lines = underway_over (substitution_view c.args.substitution) (span_behind range) t (g.T.LineStore.meaning c.loop-i.text) i c.loop-i.done c.loop-i.invariant
-          c.loop-i-test.false (omega (arith, range.within, c.requires.count))
-          ∙ same_after c.args.substitution range t;
-      capacity = c.loop-i.invariant.capacity;
+      lines = e;
+      capacity = p.capacity;
+      front = ap (λ (ls : List Line). take (range.first - 1) ls) e ∙ front_kept c.args.rule.now.substitution range t c.requires.count;
     }

@@ -1,10 +1,9 @@
-use Rattle.std.proofs.Common.{◌+◌}
+use Rattle.std.proofs.Common.{◌-◌}
 use Rattle.command.specs.View.{substitution_view}
-use Rattle.rules.specs.Addresses.{to}
+use Rattle.ranges.specs.Spans.{span_of}
 use Rattle.substituting.proofs.Underway.{Underway}
 use Rattle.substituting.proofs.rewriting.rewrite_lines.Given as goal
 
-abbrev pub invariant-loop-i : goal.invariant-loop-i
-invariant-loop-i g l =
-    Underway (substitution_view l.substitution) (to (l.initial.done + 1) l._i-end) (g.T.LineStore.meaning l.initial.text)
-    (g.T.LineStore.meaning l.text) l._i l.done
+abbrev pub invariant-loop : goal.invariant-loop
+invariant-loop g l =
+    Underway (substitution_view l.rule.substitution) (span_of l.fn.range) (g.T.LineStore.meaning l.initial.text) (g.T.LineStore.meaning l.text) (l.counter - 1) l.done

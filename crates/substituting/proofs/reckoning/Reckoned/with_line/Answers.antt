@@ -1,0 +1,24 @@
+use Rattle.std.proofs.Common.{ℕ, List, map, sym, refl, ap, ◌∙◌, rules, tests}
+use Rattle.std.proofs.lemmas.Iterator.Consumers.{YieldsList-from_first, fold_from_yields_List}
+use Rattle.std.specs.List.{fold}
+use Rattle.lines.specs.Store.{line_at}
+use Rattle.command.specs.View.{substitution_view}
+use Rattle.rules.specs.Patterns.{substituted}
+use Rattle.rules.specs.Pieces.{Piece}
+use Rattle.substituting.specs.Reckoning.{reckoned_line, reckoned_pieces}
+use Rattle.substituting.specs.Rest.{rest_of}
+use Rattle.substituting.specs.Spelling.{line_of}
+use Rattle.substituting.proofs.Summing.{pieces_hit}
+use Rattle.substituting.proofs.Tallying.{reckoned_news}
+use Rattle.substituting.proofs.reckoning.Reckoned.with_line.Goals as goal
+
+pub returns-in-Some : goal.returns-in-Some
+returns-in-Some g c =
+    let s = substitution_view c.args.rule.now.substitution in
+    let t = (line_at (g.T.LineStore.meaning c.args.text.now) c.args.n).text in
+    let k = c.args.self in
+    fold_from_yields_List _ reckoned_line k c.fold.result c.fold.ensures.ran (YieldsList-from_first (λ x. x) rest_of _ refl) (λ a x b q h. search (rules, tests))
+    ∙ ap (λ (ls : List (List ℕ)). fold reckoned_line k (map line_of ls)) c.new.ensures
+    ∙ ap (λ (x : List ℕ). fold reckoned_line k (map line_of (substituted s x))) c.in-Some.ensures.line
+    ∙ reckoned_news (substituted s t) k
+    ∙ sym (ap (λ (ps : List Piece). reckoned_pieces k ps) (pieces_hit s c.args.n t (sym c.in-Some.ensures.hit)))
