@@ -3,5 +3,4 @@
 
 pub mod fault;
 pub mod line;
-pub mod making;
 pub mod store;

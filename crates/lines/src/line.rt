@@ -1,6 +1,6 @@
 // What a line may be: the bounds on its text and the bits of its tag.
 ghost use Rattle.std.specs.Prelude.{◌≡◌};
-ghost use Rattle.lines.specs.Line.{holds_break, fitting, defined};
+ghost use Rattle.lines.specs.Line.{fitting, defined};
 
 // The marks of a line and whether it is chosen, one bit for each.
 pub type Tag = u32;
@@ -21,10 +21,7 @@ pub const UNDEFINED: Tag = 1 << 27;
 pub fn fits_line(text: &[u8]) -> bool
     ensures { result ≡ fitting text.now }
 {
-    if text.len() > LINE_MAX {
-        return false;
-    }
-    !holds_break(text)
+    text.len() <= LINE_MAX && !text.contains(&LINE_BREAK)
 }
 
 // Whether a tag has no undefined bit.
@@ -32,15 +29,4 @@ pub fn is_defined(tag: Tag) -> bool
     ensures { result ≡ defined tag }
 {
     tag < UNDEFINED
-}
-
-fn holds_break(text: &[u8]) -> bool
-    ensures { result ≡ holds_break text.now }
-{
-    for b in text {
-        if *b == LINE_BREAK {
-            return true;
-        }
-    }
-    false
 }

@@ -4,12 +4,12 @@ ghost use Rattle.packed_shelf.specs.Meaning.{meaning_of};
 ghost use Rattle.packed_shelf.specs.Kept.{packed-sound};
 ghost use Rattle.packed_shelf.specs.State.{kept};
 
-use crate::fault::MakeFault;
 use crate::packed::PackedShelf;
 use crate::part::copy_from;
 use shelf::fault::ShelfFault;
 use shelf::interface::{FILES_MAX, SHELF_MAX, Shelf};
 use shelf::name::{begins_with, is_name};
+use making::MakeFault;
 use std::alloc::Global;
 
 impl PackedShelf {

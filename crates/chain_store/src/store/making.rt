@@ -5,7 +5,7 @@ ghost use Rattle.chain_store.specs.Meaning.{meaning_of};
 use super::{ANCHORS, ChainStore};
 use crate::links::in_order;
 use crate::slot::Slot;
-use lines::making::MakeFault;
+use making::MakeFault;
 use lines::store::CAPACITY_MAX;
 use std::alloc::Global;
 

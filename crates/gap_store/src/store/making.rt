@@ -6,7 +6,7 @@ use super::GapStore;
 use crate::gap::Gap;
 use crate::row::Row;
 use lines::line::LINE_MAX;
-use lines::making::MakeFault;
+use making::MakeFault;
 use lines::store::CAPACITY_MAX;
 use std::alloc::Global;
 
