@@ -2,7 +2,10 @@
 #![tactic(auto)]
 
 ghost use Rattle.std.specs.Prelude.{◌≡◌};
+ghost use Rattle.making.specs.declared.MakeFault.TheVariants.{Memory};
 ghost use Rattle.making.specs.Making.{number_of};
+
+use std::alloc::AllocError;
 
 // A refusal to make one, by its number in the rules.
 #[derive(Clone, Copy, PartialEq, Eq, Debug)]
@@ -19,5 +22,14 @@ impl MakeFault {
         ensures { result ≡ number_of self }
     {
         self as u8
+    }
+}
+
+// An allocation that fails is a refusal for want of memory.
+impl From<AllocError> for MakeFault {
+    ghost from_gives = { λ _ fault. fault ≡ Memory };
+
+    fn from(_failed: AllocError) -> MakeFault {
+        MakeFault::Memory
     }
 }

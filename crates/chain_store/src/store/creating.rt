@@ -5,8 +5,8 @@ ghost use Rattle.chain_store.specs.Meaning.{meaning_of};
 use super::{ANCHORS, ChainStore};
 use crate::links::in_order;
 use crate::slot::Slot;
-use making::MakeFault;
 use lines::store::CAPACITY_MAX;
+use making::MakeFault;
 use std::alloc::Global;
 
 impl ChainStore {
@@ -18,13 +18,8 @@ impl ChainStore {
             return Err(MakeFault::Capacity);
         }
         // In order, the chain begins with 0 and FREE: there is no line between.
-        let last = capacity + ANCHORS - 1;
-        let Ok(links) = in_order(heap, last as u16) else {
-            return Err(MakeFault::Memory);
-        };
-        let Ok(slots) = Vec::from_elem(heap, Slot::vacant(), capacity) else {
-            return Err(MakeFault::Memory);
-        };
+        let links = in_order(heap, (capacity + ANCHORS) as u16)?;
+        let slots = Vec::from_elem(heap, Slot::vacant(), capacity)?;
         Ok(ChainStore {
             links,
             slots,
