@@ -3,7 +3,7 @@ use Rattle.std.proofs.Common.{◌≡◌, ℕ, ◌+◌, ◌-◌, ◌<◌, ◌≤�
 use Rattle.std.proofs.lemmas.List.{length-set, map-set, get_or_read}
 use Rattle.std.proofs.lemmas.Bool.Decides.{nat_tests}
 use Rattle.lines.specs.Line.{Line}
-use Rattle.lines.specs.Store.{line_at}
+use Rattle.lines.specs.Store.{Store, line_at, with_lines}
 use Rattle.chain_store.specs.declared.slot.Slot.{Slot}
 use Rattle.chain_store.specs.declared.store.ChainStore.{ChainStore}
 use Rattle.chain_store.specs.Chain.{chain, relinked}
@@ -80,10 +80,18 @@ module _ (s : ChainStore) where
     bounds : (1 ≤ n) × (n ≤ s.count)
     bounds = let e = count_is s in let t = f.there in (grind (arith, nat_tests), grind (arith, nat_tests))
 
-    pub tag_means : (g : ℕ) → line_of new ≡ record { text = (line_of old).text; tag = g }
+    tag_means : (g : ℕ) → line_of new ≡ record { text = (line_of old).text; tag = g }
         → lines_along links (held (set slots i new)) s.count ≡ set (meaning_of s).lines (n - 1) (record { text = (line_at (meaning_of s) n).text; tag = g })
     tag_means g e =
         let was : line_of old ≡ line_at (meaning_of s) n = sym (held_at slots i old f.inside read) ∙ sym f.line in
         ap (λ (ls : List Line). lines_along links ls s.count) (map-set line_of slots i new ∙ ap (λ (j : ℕ). set (held slots) j (line_of new)) f.here)
         ∙ line_set (keeps s) (held slots) (length_held slots) n bounds.0 bounds.1 (line_of new)
         ∙ ap (λ (l : Line). set (meaning_of s).lines (n - 1) l) (e ∙ ap (λ (l : Line). record { text = l.text; tag = g }) was)
+
+    -- the store with the slot written
+    pub tag_store : (g : ℕ) → line_of new ≡ record { text = (line_of old).text; tag = g }
+        → record { lines = lines_along links (held (set slots i new)) s.count; capacity = length (set slots i new) }
+        ≡ with_lines (meaning_of s) (set (meaning_of s).lines (n - 1) (record { text = (line_at (meaning_of s) n).text; tag = g }))
+    tag_store g e =
+        ap (λ (ls : List Line). let t : Store = record { lines = ls; capacity = length (set slots i new) } in t) (tag_means g e)
+        ∙ ap (λ (m : ℕ). let t : Store = record { lines = set (meaning_of s).lines (n - 1) (record { text = (line_at (meaning_of s) n).text; tag = g }); capacity = m } in t) (length-set slots i new)

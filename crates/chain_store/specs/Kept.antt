@@ -31,10 +31,6 @@ new_kept ns cap last some bounded is e =
     subst (λ (xs : List ℕ). Kept xs cap 0) (sym is) k
 
 module _ {ns : List ℕ} {cap count : ℕ} (kept : Kept ns cap count) where
-  -- the facts one after the other, without their names
-  pub facts : (1 ≤ cap) × ((cap ≤ 4096) × ((length ns ≡ cap + 2) × ((count ≤ cap) × (Within ns × (Apart (chain ns) × ((slice_index (chain ns) (count + 1) ≡ 1) × Unit {0}))))))
-  facts = (kept.some, (kept.bounded, (kept.long, (kept.room, (kept.within, (kept.apart, (kept.parted, tt)))))))
-
   pub slot-number : (k : ℕ) → AtSlot cap count k → (2 ≤ slice_index (chain ns) k) × (slice_index (chain ns) k < cap + 2)
   slot-number k (one, hk, ne) =
       let l = length-chain ns in

@@ -1,18 +1,11 @@
 -- The chain of a new store: each number stands at its own place.
-use Rattle.std.specs.Prelude.{◌≡◌, ℕ, zero, suc, ◌+◌, ◌<◌, ◌≤◌, [], ◌∷◌, ◌++◌, length, slice_index, slice_index_or}
+use Rattle.std.specs.Prelude.{◌≡◌, ℕ, zero, suc, ◌+◌, ◌<◌, ◌≤◌, length, slice_index, slice_index_or}
 use Rattle.std.proofs.Common.{sym, ◌∙◌, ⊎_elim, add-one, arith, rules}
-use Rattle.std.specs.List.{range_with_len}
-use Rattle.std.proofs.lemmas.List.{places, same_lists, get_or_past}
+use Rattle.std.proofs.lemmas.List.{places, get_or_past}
 use Rattle.std.proofs.lemmas.List.FromFn.{length-range_with_len, get_or-range_with_len}
 use Rattle.std.proofs.lemmas.Bool.{cases_order}
 use Rattle.chain_store.specs.Chain.{chain, in_order, Within, Apart}
 use Rattle.chain_store.specs.Follow.{length-chain, chain_start, chain_next}
-
-pub counting_more : (a n : ℕ) → range_with_len a (n + 1) ≡ range_with_len a n ++ (a + n) ∷ []
-counting_more a n =
-    let l = length-range_with_len a n in
-    let m = length-range_with_len a (n + 1) in
-    same_lists _ _ (search (rules, places)) (λ k d h. grind (arith, places, get_or-range_with_len, cases_order k n))
 
 module _ (m : ℕ) where
   pub length-in_order : length (in_order m) ≡ m + 1

@@ -1,5 +1,5 @@
 // The table of links: numbers in a chain, each with the number that follows it.
-ghost use Rattle.std.specs.Prelude.{◌≡◌, ◌<◌, length, IfOk, slice_index};
+ghost use Rattle.std.specs.Prelude.{◌≡◌, ◌-◌, ◌<◌, ◌≤◌, length, IfOk, slice_index};
 ghost use Rattle.chain_store.specs.Chain.{chain, in_order, relinked, Within};
 
 use std::alloc::{AllocError, Global};
@@ -7,15 +7,14 @@ use std::alloc::{AllocError, Global};
 // The number that the chain begins with.
 const START: usize = 0;
 
-// A table in which each of the numbers 0 to `last` is followed by the next one, and `last` by 0.
-pub fn in_order(heap: Global, last: u16) -> Result<Vec<u16>, AllocError>
-    ensures { IfOk result (λ v. v.items ≡ in_order last) }
+// A table of `count` numbers from 0 on, in which each is followed by the next one, and the last by 0.
+pub fn in_order(heap: Global, count: u16) -> Result<Vec<u16>, AllocError>
+    requires { 1 ≤ count }
+    ensures { IfOk result (λ v. v.items ≡ in_order (count - 1)) }
 {
-    let mut links = Vec::with_capacity(heap, last as usize + 1)?;
-    for i in 0..last {
-        links.push_reserved(i + 1);
-    }
-    links.push_reserved(0);
+    let mut links = Vec::with_capacity(heap, count as usize)?;
+    links.extend(1..count)?;
+    links.push(0)?;
     Ok(links)
 }
 

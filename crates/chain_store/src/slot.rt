@@ -7,6 +7,7 @@ use lines::line::{LINE_MAX, Tag};
 mod filling;
 
 // A slot holds a proper line at all times, a free one too. The text is the first `len` bytes of `bytes`.
+// No list with its length: a store has 4,096 slots, and this one takes 260 bytes and is `Copy`.
 #[derive(Clone, Copy)]
 pub struct Slot {
     pub tag: Tag,

@@ -5,9 +5,9 @@ ghost use Rattle.chain_store.specs.Chain.{chain, Within, Apart};
 use crate::slot::Slot;
 
 mod changing;
+mod creating;
 mod finding;
 mod interface;
-mod making;
 
 // The number behind the lines, which the free slots follow.
 const FREE: usize = 1;
@@ -17,6 +17,7 @@ const ANCHORS: usize = 2;
 
 // One chain goes through all numbers: from 0 through the slots of the lines, in order, to FREE, and on through the
 // free slots. So the first line and the first free slot have a number in front of them as every other has.
+// Links and slots lie beside each other, and not in one list, since 0 and FREE are numbers of no slot.
 #[derive(Drop)]
 pub struct ChainStore {
     links: Vec<u16>,

@@ -1,7 +1,7 @@
 -- Moving the gap in the rows keeps the lines, and keeps the rows back to back on either side.
 use Rattle.std.proofs.Common.{◌≡◌, ℕ, ◌+◌, ◌-◌, ◌<◌, ◌≤◌, true, cond, ltb, List, ◌++◌, length, get_or, take, drop, sym, ap, ◌∙◌, subst, arith}
 use borrow.Rule.Slice.PartMut.{put_mid}
-use Rattle.std.proofs.lemmas.List.{append_assoc, take_at, drop_at, take-take, take-append-le, take-append-drop, take_all, length-take-le, length-drop, length-append, get_or-take, get_or-drop}
+use Rattle.std.proofs.lemmas.List.{append_assoc, take_at, drop_at, take-take, take-append-le, take-append-drop, take_all, length-take-le, length-drop, length-append, get_or-take, get_or-drop, get_or_read}
 use Rattle.std.proofs.lemmas.Bool.{ltb-true, ltb-false, cond_both}
 use Rattle.std.proofs.lemmas.Slice.{between_is, take-put_mid, take-put_mid_below, drop-put_mid}
 use Rattle.gap_store.specs.declared.row.Row.{Row}
@@ -9,6 +9,10 @@ use Rattle.gap_store.specs.Gaps.{held}
 use Rattle.gap_store.specs.Rows.{no_row, total, cut, laid, relaid}
 use Rattle.gap_store.specs.Sliding.{Slid}
 use Rattle.gap_store.specs.BackToBack.{total-append, laid-total, laid_join, laid_front, laid_back, laid_at, laid-relaid, cut-relaid, length-relaid}
+
+-- where a row that was read starts
+pub row_start : (was : List Row) (at : ℕ) (r : Row) → at < length was → r ≡ get_or was at r → r.start ≡ (get_or was at no_row).start
+row_start was at r lt is = ap (λ (x : Row). x.start) (get_or_read was at r lt is no_row)
 
 -- the two sides of a gap, from what is held
 module _ {X : Type 0} (zs xs ys : List X) (at m : ℕ) (e : held zs at m ≡ xs ++ ys) (n : length xs ≡ at) (le : at ≤ length zs) where
@@ -88,7 +92,7 @@ module _ (was : List Row) (f b p q at : ℕ) (le : f ≤ b) (last : b ≤ length
           ∙ ap (λ (z : List Row). z ++ drop (b - m) (drop m rows)) new_is
           ∙ ap (λ (z : List Row). relaid (offset + (q - p)) ys ++ z) (ap (drop (b - m)) behind ∙ drop_at ys (drop b was) (b - m) long_ys)
 
-      pub slid_down : (end : ℕ) → laid q (drop b was) end ≡ true → Slid was f b p q end at made offset
+      slid_down : (end : ℕ) → laid q (drop b was) end ≡ true → Slid was f b p q end at made offset
       slid_down end g = record {
         here = down_offset ∙ ap total (sym (take-append-le at (take f was) (drop b was) (omega (arith, long))));
         same = λ bytes.
@@ -103,6 +107,14 @@ module _ (was : List Row) (f b p q at : ℕ) (le : f ≤ b) (last : b ≤ length
             (laid-relaid (0 + total xs) ys p (offset + (q - p)) (laid_back 0 xs ys p (subst (λ (z : List Row). laid 0 z p ≡ true) (sym joined) h)))
             (subst (λ (k : ℕ). laid k (drop b was) end ≡ true) (omega (arith, down_total)) g));
       }
+
+    -- the same, where the offset was read and the rows were written back
+    pub down_written : (off : ℕ) → off ≡ offset → (new : List Row) → new ≡ relaid (off + (q - p)) (take (b - m) (drop m rows))
+        → (end : ℕ) → laid q (drop b was) end ≡ true → (written : List Row) → written ≡ put_mid m (b - m) rows new → Slid was f b p q end at written off
+    down_written off o new l end g written w =
+        subst (λ (k : ℕ). Slid was f b p q end at written k) (sym o)
+        (subst (λ (rs : List Row). Slid was f b p q end at rs offset) (sym w)
+        (slid_down new (l ∙ ap (λ (k : ℕ). relaid (k + (q - p)) (take (b - m) (drop m rows))) o) end g))
 
 -- the gap moves up: the rows xs, between the gap and `at`, go to its other side
 module _ (was : List Row) (f b p q end at : ℕ) (le : f ≤ b) (last : b ≤ length was) (room : p ≤ q) (lt : f ≤ at) (top : at ≤ f + (length was - b))
@@ -123,7 +135,7 @@ module _ (was : List Row) (f b p q end at : ℕ) (le : f ≤ b) (last : b ≤ le
   up_laid = subst (λ (z : List Row). laid q z end ≡ true) (sym up_joined) g
 
   -- where the bytes of the moved rows stop
-  pub up_stop : cond (ltb (b + (at - f)) (length was)) (get_or was (b + (at - f)) no_row).start end ≡ q + total up_xs
+  up_stop : cond (ltb (b + (at - f)) (length was)) (get_or was (b + (at - f)) no_row).start end ≡ q + total up_xs
   up_stop =
       cond_both (ltb (b + (at - f)) (length was)) (get_or was (b + (at - f)) no_row).start end (λ (k : ℕ). k ≡ q + total up_xs)
       (λ e.
@@ -136,6 +148,15 @@ module _ (was : List Row) (f b p q end at : ℕ) (le : f ≤ b) (last : b ≤ le
       let n = length-drop b was in
       let all : up_xs ≡ drop b was = take_all (at - f) (drop b was) (omega arith) in
       laid-total q (drop b was) end g ∙ ap (λ (z : List Row). q + total z) (sym all))
+
+  -- the same, as it was read from rows and bytes that were lent
+  pub up_read : (us : List Row) → us ≡ was → (final : ℕ) → final ≡ end → (stop : ℕ)
+      → stop ≡ cond (ltb (b + (at - f)) (length us)) (get_or us (b + (at - f)) no_row).start final → stop ≡ q + total up_xs
+  up_read us u final z stop is =
+      is
+      ∙ ap (λ (rs : List Row). cond (ltb (b + (at - f)) (length rs)) (get_or rs (b + (at - f)) no_row).start final) u
+      ∙ ap (λ (k : ℕ). cond (ltb (b + (at - f)) (length was)) (get_or was (b + (at - f)) no_row).start k) z
+      ∙ up_stop
 
   module _ (rows : List Row) (n : length rows ≡ length was) (e : held rows at up_m ≡ held was f b) where
     long_front : length (take f was) ≡ f
@@ -181,7 +202,7 @@ module _ (was : List Row) (f b p q end at : ℕ) (le : f ≤ b) (last : b ≤ le
       up_made_behind : drop up_m up_made ≡ up_ys
       up_made_behind = drop-put_mid f (at - f) rows new up_m (omega arith) (omega arith) long_new ∙ up_behind
 
-      pub slid_up : (offset : ℕ) → offset ≡ p + total up_xs → Slid was f b p q end at up_made offset
+      slid_up : (offset : ℕ) → offset ≡ p + total up_xs → Slid was f b p q end at up_made offset
       slid_up offset o = record {
         here =
             let t = laid-total 0 (take f was) p h in
@@ -198,3 +219,7 @@ module _ (was : List Row) (f b p q end at : ℕ) (le : f ≤ b) (last : b ≤ le
         behind = subst (λ (z : List Row). laid (offset + (q - p)) z end ≡ true) (sym up_made_behind)
             (subst (λ (k : ℕ). laid k up_ys end ≡ true) (omega arith) (laid_back q up_xs up_ys end up_laid));
       }
+
+    pub up_written : (new : List Row) → new ≡ relaid p (take (at - f) (drop f rows))
+        → (offset : ℕ) → offset ≡ p + total up_xs → (written : List Row) → written ≡ put_mid f (at - f) rows new → Slid was f b p q end at written offset
+    up_written new l offset o written w = subst (λ (rs : List Row). Slid was f b p q end at rs offset) (sym w) (slid_up new l offset o)

@@ -7,8 +7,8 @@ use Rattle.std.proofs.lemmas.Bool.Decides.{nat_tests}
 use Rattle.lines.specs.Line.{Line, blank}
 use Rattle.lines.specs.Store.{line_at, inserted}
 use Rattle.gap_store.specs.declared.row.Row.{Row}
-use Rattle.gap_store.specs.Gaps.{held}
-use Rattle.gap_store.specs.Rows.{no_row, total, cut, laid, gap_meaning, overwritten, place}
+use Rattle.gap_store.specs.Gaps.{held, overwritten, place}
+use Rattle.gap_store.specs.Rows.{no_row, total, cut, laid, gap_meaning}
 use Rattle.gap_store.specs.BackToBack.{total-append, length_cut, cut-append, laid-total, laid_front, laid_join, laid_one, laid_at, laid-set}
 use Rattle.gap_store.specs.Sides.{room, stop, front-total, sides}
 
@@ -110,7 +110,7 @@ module _ (rows : List Row) (f b : ℕ) (bytes : List ℕ) (p q : ℕ)
     pub remove_front : laid 0 (take (f - 1) rows) gone.start ≡ true
     remove_front = subst (λ (n : ℕ). laid 0 (take (f - 1) rows) n ≡ true) (omega (arith, starts)) (laid_front 0 (take (f - 1) rows) (gone ∷ []) p laid-parted)
 
-    lower : gone.start ≤ p
+    pub lower : gone.start ≤ p
     lower =
         let t = laid-total 0 (take (f - 1) rows ++ gone ∷ []) p laid-parted in
         let u = total-append (take (f - 1) rows) (gone ∷ []) in

@@ -1,5 +1,5 @@
 -- Rows that say where the bytes of each line lie, and the lines that rows and bytes with a gap mean.
-use Rattle.std.specs.Prelude.{ℕ, ◌+◌, ◌-◌, Bool, cond, ◌&&◌, List, [], ◌∷◌, ◌++◌, length, take, drop, ◌==◌, nat_le}
+use Rattle.std.specs.Prelude.{ℕ, ◌+◌, Bool, ◌&&◌, List, [], ◌∷◌, length, take, drop, ◌==◌, nat_le}
 use Rattle.lines.specs.Line.{Line}
 use Rattle.lines.specs.Store.{Store}
 use Rattle.gap_store.specs.declared.row.Row.{Row}
@@ -32,11 +32,3 @@ relaid from (r ∷ rs) = record { start = from; len = r.len; tag = r.tag } ∷ r
 -- the store that rows with a gap from f to b, over bytes with a gap from p to q, mean
 abbrev pub gap_meaning : List Row → ℕ → ℕ → List ℕ → ℕ → ℕ → Store
 gap_meaning rows f b bytes p q = record { lines = cut (held bytes p q) (held rows f b); capacity = length rows }
-
--- bytes with a text written over them from a place on
-abbrev pub overwritten : List ℕ → ℕ → List ℕ → List ℕ
-overwritten bytes at text = take at bytes ++ (text ++ drop (at + length text) bytes)
-
--- the row of line n: in front of the gap, or behind it
-abbrev pub place : ℕ → ℕ → ℕ → ℕ
-place f b n = cond (nat_le n f) (n - 1) (n - 1 - f + b)

@@ -6,8 +6,8 @@ use Rattle.std.proofs.lemmas.Bool.{cases_lt}
 use Rattle.std.proofs.lemmas.Bool.Decides.{nat_tests}
 use Rattle.lines.specs.Store.{line_at}
 use Rattle.gap_store.specs.declared.row.Row.{Row}
-use Rattle.gap_store.specs.Gaps.{held}
-use Rattle.gap_store.specs.Rows.{no_row, total, cut, laid, gap_meaning, place}
+use Rattle.gap_store.specs.Gaps.{held, place}
+use Rattle.gap_store.specs.Rows.{no_row, total, cut, laid, gap_meaning}
 use Rattle.gap_store.specs.BackToBack.{total-append, length_cut, cut-append, cut_at, laid-total, laid_bound, laid_at}
 use Rattle.gap_store.specs.Moves.{length_held}
 

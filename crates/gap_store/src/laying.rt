@@ -3,7 +3,7 @@ ghost use Rattle.std.specs.Prelude.{◌≡◌, ℕ, ◌+◌, ◌-◌, ◌^◌, �
 ghost use Rattle.gap_store.specs.Rows.{no_row, total, laid, relaid};
 ghost use Rattle.gap_store.specs.Sliding.{Slid};
 
-use crate::gap::{Gap, move_gap};
+use crate::gapped::Gapped;
 use crate::row::Row;
 
 // Lays rows back to back from byte `start` on.
@@ -12,60 +12,61 @@ fn lay(rows: &mut [Row], start: usize)
     ensures { rows.new ≡ relaid start rows.old }
 {
     let mut at = start;
-    for k in 0..rows.len() {
-        let row = rows[k];
-        rows[k] = Row {
-            start: at,
-            len: row.len,
-            tag: row.tag,
-        };
+    for row in rows.iter_mut() {
+        row.start = at;
         at += row.len as usize;
     }
 }
 
-// Moves the gap in the rows to `at`, and answers the place where the gap in the bytes is then to start. The
-// rows' bytes end at `end`.
-pub fn slide(rows: &mut [Row], gap: Gap, bytes: Gap, end: usize, at: usize) -> usize
-    requires order { (gap.start ≤ gap.end) × ((gap.end ≤ length rows.old) × (at ≤ gap.start + (length rows.old - gap.end))) }
-    requires room { bytes.start ≤ bytes.end }
-    requires front { laid 0 (take gap.start rows.old) bytes.start ≡ true }
-    requires behind { laid bytes.end (drop gap.end rows.old) end ≡ true }
-    ensures { Slid rows.old gap.start gap.end bytes.start bytes.end end at rows.new result }
+// Moves the gap in the rows to `at`, and answers the place where the gap in their bytes is then to start.
+pub fn slide(rows: &mut Gapped<Row>, bytes: &Gapped<u8>, at: usize) -> usize
+    requires within { at ≤ rows.old.start + (length rows.old.all.items - rows.old.end) }
+    requires front { laid 0 (take rows.old.start rows.old.all.items) bytes.now.start ≡ true }
+    requires behind { laid bytes.now.end (drop rows.old.end rows.old.all.items) (length bytes.now.all.items) ≡ true }
+    ensures start { rows.new.start ≡ at }
+    ensures end { rows.new.end ≡ at + (rows.old.end - rows.old.start) }
+    ensures len { length rows.new.all.items ≡ length rows.old.all.items }
+    ensures slid { Slid rows.old.all.items rows.old.start rows.old.end bytes.now.start bytes.now.end (length bytes.now.all.items) at rows.new.all.items result }
 {
-    if at < gap.start {
-        slide_down(rows, gap, bytes, at)
+    if at < rows.start {
+        slide_down(rows, bytes, at)
     } else {
-        slide_up(rows, gap, bytes, end, at)
+        slide_up(rows, bytes, at)
     }
 }
 
 // The gap moves down: the rows between are laid up to where those behind the gap start.
-fn slide_down(rows: &mut [Row], gap: Gap, bytes: Gap, at: usize) -> usize
-    requires order { (gap.start ≤ gap.end) × ((gap.end ≤ length rows.old) × (at < gap.start)) }
-    requires room { bytes.start ≤ bytes.end }
-    requires front { laid 0 (take gap.start rows.old) bytes.start ≡ true }
-    ensures { (end : ℕ) → laid bytes.end (drop gap.end rows.old) end ≡ true → Slid rows.old gap.start gap.end bytes.start bytes.end end at rows.new result }
+fn slide_down(rows: &mut Gapped<Row>, bytes: &Gapped<u8>, at: usize) -> usize
+    requires within { at < rows.old.start }
+    requires front { laid 0 (take rows.old.start rows.old.all.items) bytes.now.start ≡ true }
+    requires behind { laid bytes.now.end (drop rows.old.end rows.old.all.items) (length bytes.now.all.items) ≡ true }
+    ensures start { rows.new.start ≡ at }
+    ensures end { rows.new.end ≡ at + (rows.old.end - rows.old.start) }
+    ensures len { length rows.new.all.items ≡ length rows.old.all.items }
+    ensures slid { Slid rows.old.all.items rows.old.start rows.old.end bytes.now.start bytes.now.end (length bytes.now.all.items) at rows.new.all.items result }
 {
-    let offset = rows[at].start;
-    let from = at + (gap.end - gap.start);
-    let to = gap.end;
-    move_gap(rows, gap, at);
-    lay(&mut rows[from..to], offset + (bytes.end - bytes.start));
+    let offset = rows.all[at].start;
+    let from = at + (rows.end - rows.start);
+    let to = rows.end;
+    rows.slide(at);
+    lay(&mut rows.all[from..to], offset + (bytes.end - bytes.start));
     offset
 }
 
 // The gap moves up: the rows between are laid from where those in front of the gap stop.
-fn slide_up(rows: &mut [Row], gap: Gap, bytes: Gap, end: usize, at: usize) -> usize
-    requires order { (gap.start ≤ gap.end) × ((gap.end ≤ length rows.old) × ((gap.start ≤ at) × (at ≤ gap.start + (length rows.old - gap.end)))) }
-    requires room { bytes.start ≤ bytes.end }
-    requires front { laid 0 (take gap.start rows.old) bytes.start ≡ true }
-    requires behind { laid bytes.end (drop gap.end rows.old) end ≡ true }
-    ensures { Slid rows.old gap.start gap.end bytes.start bytes.end end at rows.new result }
+fn slide_up(rows: &mut Gapped<Row>, bytes: &Gapped<u8>, at: usize) -> usize
+    requires within { (rows.old.start ≤ at) × (at ≤ rows.old.start + (length rows.old.all.items - rows.old.end)) }
+    requires front { laid 0 (take rows.old.start rows.old.all.items) bytes.now.start ≡ true }
+    requires behind { laid bytes.now.end (drop rows.old.end rows.old.all.items) (length bytes.now.all.items) ≡ true }
+    ensures start { rows.new.start ≡ at }
+    ensures end { rows.new.end ≡ at + (rows.old.end - rows.old.start) }
+    ensures len { length rows.new.all.items ≡ length rows.old.all.items }
+    ensures slid { Slid rows.old.all.items rows.old.start rows.old.end bytes.now.start bytes.now.end (length bytes.now.all.items) at rows.new.all.items result }
 {
-    let from = gap.start;
-    let stop = start_of(rows, gap.end + (at - from), end);
-    move_gap(rows, gap, at);
-    lay(&mut rows[from..at], bytes.start);
+    let from = rows.start;
+    let stop = start_of(&rows.all, rows.end + (at - from), bytes.all.len());
+    rows.slide(at);
+    lay(&mut rows.all[from..at], bytes.start);
     stop - (bytes.end - bytes.start)
 }
 
@@ -73,5 +74,5 @@ fn slide_up(rows: &mut [Row], gap: Gap, bytes: Gap, end: usize, at: usize) -> us
 fn start_of(rows: &[Row], k: usize, end: usize) -> usize
     ensures { result ≡ (if nat_lt k (length rows.now) then (slice_index_or rows.now k no_row).start else end) }
 {
-    if k < rows.len() { rows[k].start } else { end }
+    rows.get(k).map_or(end, |row| row.start)
 }

@@ -2,8 +2,7 @@
 // moves only the bytes between.
 #![tactic(auto)]
 
-mod bytes;
-mod gap;
+mod gapped;
 mod laying;
 mod row;
 mod store;

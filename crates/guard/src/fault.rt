@@ -10,6 +10,7 @@ pub enum GuardFault {
 }
 
 impl GuardFault {
+    // A cast wants the enum's own type, and `fault.number()` says more than `u8::from(fault)`.
     pub fn number(self) -> u8
         ensures { result ≡ number_of self }
     {

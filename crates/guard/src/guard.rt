@@ -21,6 +21,7 @@ impl<S> Guard<S> {
     pub fn new(below: S, prefix: &[u8]) -> Result<Guard<S>, GuardRefused<S>>
         ensures { Made below prefix.now result }
     {
+        // Both arms move `below`, so this is no `map` and `ok_or`.
         match Label::new(prefix) {
             Some(prefix) => Ok(Guard { below, prefix }),
             None => Err(GuardRefused {

@@ -1,7 +1,5 @@
--- The number that the rules give to each refusal of a line store, and of making one.
+-- The number that the rules give to each refusal of a line store.
 use Rattle.std.specs.Prelude.{ℕ}
-use Rattle.lines.specs.declared.making.MakeFault.{MakeFault}
-use Rattle.lines.specs.declared.making.MakeFault.TheVariants.{Capacity, Memory}
 use Rattle.lines.specs.declared.fault.StoreFault.{StoreFault}
 use Rattle.lines.specs.declared.fault.StoreFault.TheVariants.{Outside, Full, BadText, ShortBuffer}
 
@@ -10,7 +8,3 @@ number_of Outside = 30
 number_of Full = 60
 number_of BadText = 61
 number_of ShortBuffer = 62
-
-abbrev pub make_number_of : MakeFault → ℕ
-make_number_of Capacity = 30
-make_number_of Memory = 90

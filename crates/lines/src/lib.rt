@@ -4,5 +4,4 @@
 pub mod fault;
 pub mod line;
 pub mod line_of;
-pub mod making;
 pub mod store;

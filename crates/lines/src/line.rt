@@ -44,10 +44,7 @@ impl<'a> LineText<'a> {
 pub fn fits_line(text: &[u8]) -> bool
     ensures { result ≡ fitting text.now }
 {
-    if text.len() > LINE_MAX {
-        return false;
-    }
-    !holds_break(text)
+    text.len() <= LINE_MAX && !text.contains(&LINE_BREAK)
 }
 
 // Whether a tag has no undefined bit.
@@ -55,15 +52,4 @@ pub fn is_defined(tag: Tag) -> bool
     ensures { result ≡ defined tag }
 {
     tag < UNDEFINED
-}
-
-fn holds_break(text: &[u8]) -> bool
-    ensures { result ≡ holds_break text.now }
-{
-    for b in text {
-        if *b == LINE_BREAK {
-            return true;
-        }
-    }
-    false
 }

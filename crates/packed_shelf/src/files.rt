@@ -4,9 +4,9 @@ ghost use Rattle.packed_shelf.specs.Meaning.{meaning_of};
 ghost use Rattle.packed_shelf.specs.Kept.{packed-sound};
 ghost use Rattle.packed_shelf.specs.State.{kept};
 
-use crate::fault::MakeFault;
 use crate::packed::PackedShelf;
 use crate::part::copy_from;
+use making::MakeFault;
 use shelf::fault::ShelfFault;
 use shelf::interface::{FILES_MAX, SHELF_MAX, Shelf};
 use shelf::name::{begins_with, is_name};
@@ -20,12 +20,8 @@ impl PackedShelf {
         if capacity > SHELF_MAX {
             return Err(MakeFault::Capacity);
         }
-        let Ok(rows) = Vec::with_capacity(heap, FILES_MAX) else {
-            return Err(MakeFault::Memory);
-        };
-        let Ok(bytes) = Vec::from_elem(heap, 0u8, capacity) else {
-            return Err(MakeFault::Memory);
-        };
+        let rows = Vec::with_capacity(heap, FILES_MAX)?;
+        let bytes = Vec::from_elem(heap, 0u8, capacity)?;
         Ok(PackedShelf { rows, bytes })
     }
 }
@@ -36,31 +32,22 @@ impl Shelf for PackedShelf {
     ghost sound = { λ s. packed-sound s.rows.items s.bytes.items (kept s) };
 
     fn lookup(&self, name: &[u8]) -> Option<usize> {
-        match self.row_called(name) {
-            Some(row) => Some(row.number),
-            None => None,
-        }
+        self.row_called(name).map(|row| row.number)
     }
 
     fn size(&self, file: usize) -> Result<usize, ShelfFault> {
-        match self.row(file) {
-            Some(row) => Ok(row.size),
-            None => Err(ShelfFault::NoFile),
-        }
+        let row = self.row(file).ok_or(ShelfFault::NoFile)?;
+        Ok(row.size)
     }
 
     fn begins(&self, file: usize, prefix: &[u8]) -> Result<bool, ShelfFault> {
-        match self.row(file) {
-            Some(row) => Ok(begins_with(row.name.text(), prefix)),
-            None => Err(ShelfFault::NoFile),
-        }
+        let row = self.row(file).ok_or(ShelfFault::NoFile)?;
+        Ok(begins_with(row.name.text(), prefix))
     }
 
     fn copy(&self, file: usize, from: usize, buffer: &mut [u8]) -> Result<usize, ShelfFault> {
-        match self.contents(file) {
-            Some(contents) => Ok(copy_from(contents, from, buffer)),
-            None => Err(ShelfFault::NoFile),
-        }
+        let contents = self.contents(file).ok_or(ShelfFault::NoFile)?;
+        Ok(copy_from(contents, from, buffer))
     }
 
     fn clear(&mut self, name: &[u8], size: usize) -> Result<usize, ShelfFault> {
@@ -74,9 +61,7 @@ impl Shelf for PackedShelf {
     }
 
     fn add(&mut self, file: usize, bytes: &[u8]) -> Result<(), ShelfFault> {
-        let Some(place) = self.place(file) else {
-            return Err(ShelfFault::NoFile);
-        };
+        let place = self.place(file).ok_or(ShelfFault::NoFile)?;
         if bytes.len() > self.free() {
             return Err(ShelfFault::Full);
         }

@@ -1,7 +1,6 @@
 // A shelf in one run of memory: the files stand back to back, and no call after making allocates.
 #![tactic(auto)]
 
-pub mod fault;
 pub mod files;
 mod memory;
 mod moves;

@@ -20,39 +20,33 @@ impl PackedShelf {
     pub(crate) fn place(&self, file: usize) -> Option<usize>
         ensures { MatchOption result (present (meaning_of self.now) file ≡ false) (λ p. Found (meaning_of self.now) self.now.rows.items file p) }
     {
-        place_of(self.rows.as_slice(), file)
+        place_of(&self.rows, file)
     }
 
     // A file's row.
     pub(crate) fn row(&self, file: usize) -> Option<&Row>
         ensures { MatchOption result (present (meaning_of self.now) file ≡ false) (λ row. RowOf (meaning_of self.now) file row.now) }
     {
-        match self.place(file) {
-            Some(place) => Some(&self.rows[place]),
-            None => None,
-        }
+        let place = self.place(file)?;
+        Some(&self.rows[place])
     }
 
     // The row of the file of this name.
     pub(crate) fn row_called(&self, name: &[u8]) -> Option<&Row>
         ensures { MatchOption result (lookup_answer (meaning_of self.now) name.now ≡ None) (λ row. lookup_answer (meaning_of self.now) name.now ≡ Some row.now.number) }
     {
-        match place_called(self.rows.as_slice(), name) {
-            Some(place) => Some(&self.rows[place]),
-            None => None,
-        }
+        let place = place_called(&self.rows, name)?;
+        Some(&self.rows[place])
     }
 
     // The bytes of a file.
     pub(crate) fn contents(&self, file: usize) -> Option<&[u8]>
         ensures { MatchOption result (present (meaning_of self.now) file ≡ false) (λ c. (present (meaning_of self.now) file ≡ true) × (c.now ≡ contents_at (meaning_of self.now).files file)) }
     {
-        let Some(place) = self.place(file) else {
-            return None;
-        };
-        let start = start_of(self.rows.as_slice(), place);
-        let end = start_of(self.rows.as_slice(), place + 1);
-        Some(&self.bytes.as_slice()[start..end])
+        let place = self.place(file)?;
+        let start = start_of(&self.rows, place);
+        let end = start_of(&self.rows, place + 1);
+        Some(&self.bytes[start..end])
     }
 
     // How many bytes are free.
@@ -66,7 +60,7 @@ impl PackedShelf {
     fn used(&self) -> usize
         ensures { result ≡ total self.now.rows.items }
     {
-        start_of(self.rows.as_slice(), self.rows.len())
+        start_of(&self.rows, self.rows.len())
     }
 
     // Puts bytes at the end of the file whose row is at `place`.
@@ -75,12 +69,7 @@ impl PackedShelf {
         requires fits { held (meaning_of self.old).files + length more.now ≤ (meaning_of self.old).capacity }
         ensures { meaning_of self.new ≡ with_files (meaning_of self.old) (added (meaning_of self.old).files (number_at self.old.rows.items place) more.now) }
     {
-        lengthen_file(
-            self.rows.as_mut_slice(),
-            self.bytes.as_mut_slice(),
-            place,
-            more,
-        );
+        lengthen_file(&mut self.rows, &mut self.bytes, place, more);
     }
 
     // Empties a file, if `size` bytes then fit in it.
@@ -88,13 +77,11 @@ impl PackedShelf {
         ensures value { result ≡ old_answer (meaning_of self.old) file size }
         ensures after { meaning_of self.new ≡ old_after (meaning_of self.old) file size }
     {
-        let Some(place) = self.place(file) else {
-            return Err(ShelfFault::NoFile);
-        };
+        let place = self.place(file).ok_or(ShelfFault::NoFile)?;
         if size > self.free() + self.rows[place].size {
             return Err(ShelfFault::Full);
         }
-        empty_file(self.rows.as_mut_slice(), self.bytes.as_mut_slice(), place);
+        empty_file(&mut self.rows, &mut self.bytes, place);
         Ok(file)
     }
 
@@ -105,14 +92,9 @@ impl PackedShelf {
         ensures value { result ≡ new_answer (meaning_of self.old) name.now size }
         ensures after { meaning_of self.new ≡ new_after (meaning_of self.old) name.now size }
     {
-        let Some(label) = Label::new(name) else {
-            return Err(ShelfFault::BadName);
-        };
+        let label = Label::new(name).ok_or(ShelfFault::BadName)?;
         let number = self.rows.len();
-        if number == FILES_MAX {
-            return Err(ShelfFault::Full);
-        }
-        if size > self.free() {
+        if number == FILES_MAX || size > self.free() {
             return Err(ShelfFault::Full);
         }
         self.rows.push_reserved(Row {

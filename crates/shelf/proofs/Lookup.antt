@@ -2,15 +2,14 @@
 use Rattle.std.proofs.Common.{◌≡◌, ℕ, zero, suc, ◌+◌, ◌<◌, Bool, true, false, cond, List, [], ◌∷◌, length, Some, None, Option, sym, refl, ap, ◌∙◌, subst, ⊎_elim, arith}
 use Rattle.std.specs.Str.{bytes_eq}
 use Rattle.std.proofs.lemmas.Slice.Eq.{bytes_eq-Decides}
-use Rattle.std.proofs.lemmas.Bool.{cases_Bool}
+use Rattle.std.proofs.lemmas.Bool.{cases_Bool, false_from_ne_true}
 use Rattle.shelf.specs.Shelf.{File, Shelf, Apart, name_at, lookup_from, lookup_answer}
 
 pub same_name : (m n : List ℕ) → m ≡ n → bytes_eq m n ≡ true
 same_name m n e = (bytes_eq-Decides m n).1 e
 
 pub other_name : (m n : List ℕ) → (m ≡ n → ⊥) → bytes_eq m n ≡ false
-other_name m n ne =
-    ⊎_elim (λ (e : bytes_eq m n ≡ true). absurd (ne ((bytes_eq-Decides m n).0 e))) (λ (e : bytes_eq m n ≡ false). e) (cases_Bool (bytes_eq m n))
+other_name m n ne = false_from_ne_true (bytes_eq m n) (λ e. ne ((bytes_eq-Decides m n).0 e))
 
 -- file i is the first that has the name
 abbrev pub First : List File → List ℕ → ℕ → Type 0

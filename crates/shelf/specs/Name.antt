@@ -1,13 +1,13 @@
 -- A name of a file: 1 to 24 bytes, each from 33 to 126; and what it means that a name begins with some bytes.
-use Rattle.std.specs.Prelude.{ℕ, Bool, true, ◌&&◌, List, [], ◌∷◌, length, take, nat_le}
+use Rattle.std.specs.Prelude.{ℕ, Bool, ◌&&◌, List, length, take, nat_le}
+use Rattle.std.specs.List.{list_all}
 use Rattle.std.specs.Str.{bytes_eq}
 
 abbrev pub graphic : ℕ → Bool
 graphic b = nat_le 33 b && nat_le b 126
 
 abbrev pub all_graphic : List ℕ → Bool
-all_graphic [] = true
-all_graphic (b ∷ bs) = graphic b && all_graphic bs
+all_graphic n = list_all graphic n
 
 abbrev pub is_name : List ℕ → Bool
 is_name n = (nat_le 1 (length n) && nat_le (length n) 24) && all_graphic n

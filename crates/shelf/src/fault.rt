@@ -16,6 +16,7 @@ pub enum ShelfFault {
 }
 
 impl ShelfFault {
+    // A cast wants the enum's own type, and `fault.number()` says more than `u8::from(fault)`.
     pub fn number(self) -> u8
         ensures { result ≡ number_of self }
     {

@@ -1,4 +1,5 @@
-// A label: a name, or the front of names, held in place as 1 to 24 bytes.
+// A label: a name, or the front of names, held in place as 1 to 24 bytes. No `ArrayVec`, since a shelf's rows
+// hold labels and are moved by `shift`, which wants `Copy`.
 ghost use Rattle.std.specs.Prelude.{◌≡◌, ◌≤◌, true, false, length, take, MatchOption};
 ghost use Rattle.shelf.specs.Label.{is_label, in_array};
 

@@ -1,8 +1,8 @@
 // One shift for every kind of element: a run of `Copy` elements moves within its slice.
 #![tactic(auto)]
 
-ghost use Rattle.std.specs.Prelude.{◌≡◌, ℕ, ◌+◌, ◌≤◌, length};
-ghost use Rattle.shift.specs.Shift.{shifted, shift_answer, shift_after};
+ghost use Rattle.std.specs.Prelude.{◌≡◌};
+ghost use Rattle.shift.specs.Shift.{shift_answer, shift_after};
 
 // Why a run is not moved.
 #[derive(Clone, Copy, PartialEq, Eq, Debug)]
@@ -21,30 +21,6 @@ pub fn shift<X: Copy>(s: &mut [X], from: usize, to: usize, n: usize) -> Result<(
     if n > len || from > len - n || to > len - n {
         return Err(ShiftFault::Outside);
     }
-    // Each way reads an element before it writes over it; knowing the direction, the compiler makes a
-    // block move of either loop.
-    if to <= from {
-        shift_down(s, from, to, n);
-    } else {
-        shift_up(s, from, to, n);
-    }
+    s.copy_within(from..from + n, to);
     Ok(())
-}
-
-fn shift_down<X: Copy>(s: &mut [X], from: usize, to: usize, n: usize)
-    requires { (to ≤ from) × (from + n ≤ length s.old) }
-    ensures { s.new ≡ shifted s.old from to n }
-{
-    for i in 0..n {
-        s[to + i] = s[from + i];
-    }
-}
-
-fn shift_up<X: Copy>(s: &mut [X], from: usize, to: usize, n: usize)
-    requires { (from ≤ to) × (to + n ≤ length s.old) }
-    ensures { s.new ≡ shifted s.old from to n }
-{
-    for i in (0..n).rev() {
-        s[to + i] = s[from + i];
-    }
 }

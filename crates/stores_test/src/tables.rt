@@ -4,7 +4,7 @@ use chain_store::ChainStore;
 use gap_store::GapStore;
 use lines::fault::StoreFault;
 use lines::line::{CHOSEN, Tag, UNDEFINED};
-use lines::making::MakeFault;
+use making::MakeFault;
 use lines::store::LineStore;
 use std::process::Abort;
 use std::test::Fail;

@@ -1,5 +1,5 @@
-// What is done with one slot: a vacant one made, its text read, a line or a tag written into it.
-ghost use Rattle.std.specs.Prelude.{◌≡◌, ◌^◌, ◌<◌};
+// What is done with one slot: a vacant one made, its text read, a line written into it.
+ghost use Rattle.std.specs.Prelude.{◌≡◌};
 ghost use Rattle.lines.specs.Line.{LineFits, blank};
 ghost use Rattle.chain_store.specs.Slot.{line_of};
 
@@ -32,13 +32,6 @@ impl Slot {
         let size = text.len();
         self.bytes[0..size].copy_from_slice(text);
         self.len = size as u8;
-        self.tag = tag;
-    }
-
-    pub fn set_tag(&mut self, tag: Tag)
-        requires { tag < 2 ^ 27 }
-        ensures { line_of self.new ≡ record { text = (line_of self.old).text; tag = tag } }
-    {
         self.tag = tag;
     }
 }

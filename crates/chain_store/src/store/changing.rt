@@ -39,6 +39,6 @@ impl ChainStore {
         ensures { meaning_of self.new ≡ with_lines (meaning_of self.old) (set (meaning_of self.old).lines (n - 1) (record { text = (line_at (meaning_of self.old) n).text; tag = tag })) }
     {
         let i = self.find(n);
-        self.slots[i].set_tag(tag);
+        self.slots[i].tag = tag;
     }
 }

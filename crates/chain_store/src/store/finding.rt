@@ -1,4 +1,4 @@
-// Counting the lines, and finding the number and the slot of one.
+// Finding the number and the slot of a line.
 ghost use Rattle.std.specs.Prelude.{◌≡◌, ◌<◌, ◌≤◌, length, slice_index};
 ghost use Rattle.std.specs.Option.{option_map};
 ghost use Rattle.chain_store.specs.Chain.{chain};
@@ -8,14 +8,9 @@ ghost use Rattle.chain_store.specs.Slot.{line_of};
 use super::{ANCHORS, ChainStore};
 use crate::links::walk;
 use crate::slot::Slot;
+use lines::store::LineStore;
 
 impl ChainStore {
-    pub(super) fn lines(&self) -> usize
-        ensures { result ≡ length (meaning_of self.now).lines }
-    {
-        self.count
-    }
-
     // The number of line `n`, or the number in front of all lines where `n` is 0.
     pub(super) fn number_at(&self, n: usize) -> usize
         requires { n ≤ length (meaning_of self.now).lines }
@@ -37,11 +32,9 @@ impl ChainStore {
     pub(super) fn slot(&self, n: usize) -> Option<&Slot>
         ensures { option_map (λ s. line_of s.now) result ≡ line_if (meaning_of self.now) n }
     {
-        let count = self.lines();
-        if n == 0 || n > count {
+        if n == 0 || n > self.count() {
             return None;
         }
-        let i = self.find(n);
-        Some(&self.slots[i])
+        Some(&self.slots[self.find(n)])
     }
 }

@@ -13,7 +13,7 @@ impl LineStore for ChainStore {
     ghost sound = { λ x. Fields.sound x };
 
     fn count(&self) -> usize {
-        self.lines()
+        self.count
     }
 
     fn capacity(&self) -> usize {
@@ -21,23 +21,17 @@ impl LineStore for ChainStore {
     }
 
     fn length(&self, n: usize) -> Result<usize, StoreFault> {
-        let Some(slot) = self.slot(n) else {
-            return Err(StoreFault::Outside);
-        };
+        let slot = self.slot(n).ok_or(StoreFault::Outside)?;
         Ok(slot.text().len())
     }
 
     fn tag(&self, n: usize) -> Result<Tag, StoreFault> {
-        let Some(slot) = self.slot(n) else {
-            return Err(StoreFault::Outside);
-        };
+        let slot = self.slot(n).ok_or(StoreFault::Outside)?;
         Ok(slot.tag)
     }
 
     fn copy(&self, n: usize, buffer: &mut [u8]) -> Result<usize, StoreFault> {
-        let Some(slot) = self.slot(n) else {
-            return Err(StoreFault::Outside);
-        };
+        let slot = self.slot(n).ok_or(StoreFault::Outside)?;
         let text = slot.text();
         let size = text.len();
         if size > buffer.len() {
@@ -48,17 +42,13 @@ impl LineStore for ChainStore {
     }
 
     fn put(&mut self, behind: usize, text: &[u8], tag: Tag) -> Result<(), StoreFault> {
-        let count = self.lines();
-        if let Err(fault) = check_put(count, self.slots.len(), behind, text, tag) {
-            return Err(fault);
-        }
+        check_put(self.count(), self.capacity(), behind, text, tag)?;
         self.put_line(behind, text, tag);
         Ok(())
     }
 
     fn remove(&mut self, n: usize) -> Result<(), StoreFault> {
-        let count = self.lines();
-        if n == 0 || n > count {
+        if n == 0 || n > self.count() {
             return Err(StoreFault::Outside);
         }
         self.remove_line(n);
@@ -66,11 +56,7 @@ impl LineStore for ChainStore {
     }
 
     fn set_tag(&mut self, n: usize, tag: Tag) -> Result<(), StoreFault> {
-        let count = self.lines();
-        if n == 0 || n > count {
-            return Err(StoreFault::Outside);
-        }
-        if !is_defined(tag) {
+        if n == 0 || n > self.count() || !is_defined(tag) {
             return Err(StoreFault::Outside);
         }
         self.tag_line(n, tag);

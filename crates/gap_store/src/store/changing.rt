@@ -5,7 +5,6 @@ ghost use Rattle.lines.specs.Store.{line_at, with_lines, inserted};
 ghost use Rattle.gap_store.specs.Meaning.{meaning_of};
 
 use super::GapStore;
-use crate::bytes::overwrite_vec;
 use crate::row::Row;
 use lines::line::Tag;
 
@@ -14,29 +13,26 @@ impl GapStore {
     pub(super) fn put_at_gap(&mut self, text: &[u8], tag: Tag)
         requires free { length (meaning_of self.old).lines < (meaning_of self.old).capacity }
         requires fits { LineFits (record { text = text.now; tag = tag }) }
-        ensures { meaning_of self.new ≡ with_lines (meaning_of self.old) (inserted (meaning_of self.old).lines self.old.row_gap.start (record { text = text.now; tag = tag })) }
+        ensures { meaning_of self.new ≡ with_lines (meaning_of self.old) (inserted (meaning_of self.old).lines self.old.rows.start (record { text = text.now; tag = tag })) }
     {
-        let at = self.row_gap.start;
-        let start = self.byte_gap.start;
-        overwrite_vec(&mut self.bytes, start, text);
-        self.rows[at] = Row {
-            start,
+        let row = Row {
+            start: self.bytes.start,
             len: text.len() as u8,
             tag,
         };
-        self.row_gap.start = at + 1;
-        self.byte_gap.start = start + text.len();
+        self.rows.put(&[row]);
+        self.bytes.put(text);
     }
 
     // Removes the line in front of the gap: its row and its bytes become part of the gap.
     pub(super) fn remove_at_gap(&mut self)
-        requires { 1 ≤ self.old.row_gap.start }
-        ensures { meaning_of self.new ≡ with_lines (meaning_of self.old) (take (self.old.row_gap.start - 1) (meaning_of self.old).lines ++ drop self.old.row_gap.start (meaning_of self.old).lines) }
+        requires { 1 ≤ self.old.rows.start }
+        ensures { meaning_of self.new ≡ with_lines (meaning_of self.old) (take (self.old.rows.start - 1) (meaning_of self.old).lines ++ drop self.old.rows.start (meaning_of self.old).lines) }
     {
-        let at = self.row_gap.start - 1;
-        let row = self.rows[at];
-        self.row_gap.start = at;
-        self.byte_gap.start = row.start;
+        let at = self.rows.start - 1;
+        let row = self.rows.all[at];
+        self.rows.take_out(at);
+        self.bytes.take_out(row.start);
     }
 
     // Gives line `n` another tag.
@@ -45,11 +41,7 @@ impl GapStore {
         ensures { meaning_of self.new ≡ with_lines (meaning_of self.old) (set (meaning_of self.old).lines (n - 1) (record { text = (line_at (meaning_of self.old) n).text; tag = tag })) }
     {
         let i = self.place_of(n);
-        let row = self.rows[i];
-        self.rows[i] = Row {
-            start: row.start,
-            len: row.len,
-            tag,
-        };
+        let row = self.rows.all[i];
+        self.rows.write(i, Row { tag, ..row });
     }
 }

@@ -4,7 +4,6 @@ ghost use Rattle.std.proofs.Common.{arith};
 ghost use Rattle.gap_store.specs.Stored.{count_of};
 
 use super::GapStore;
-use crate::bytes::write_front;
 use lines::fault::StoreFault;
 use lines::line::{Tag, is_defined};
 use lines::store::{LineStore, check_put};
@@ -15,59 +14,51 @@ impl LineStore for GapStore {
     ghost sound = { unfold meaning_of in
         λ x.
         let count = count_of x in
-        let order = x.order in
-        let last = x.last in
+        let order = x.rows.order in
+        let last = x.rows.last in
         record { some = x.some; bounded = x.bounded; room = omega arith; each = x.each } };
 
+    #[tactic(auto, using(crate::specs::Stored::count_of), unfolding(crate::specs::Meaning::meaning_of))]
     fn count(&self) -> usize {
-        self.lines()
+        self.rows.count()
     }
 
+    #[tactic(auto, unfolding(crate::specs::Meaning::meaning_of))]
     fn capacity(&self) -> usize {
-        self.most_lines()
+        self.rows.all.len()
     }
 
     fn length(&self, n: usize) -> Result<usize, StoreFault> {
-        let Some(row) = self.find(n) else {
-            return Err(StoreFault::Outside);
-        };
+        let row = self.find(n).ok_or(StoreFault::Outside)?;
         Ok(row.len as usize)
     }
 
     fn tag(&self, n: usize) -> Result<Tag, StoreFault> {
-        let Some(row) = self.find(n) else {
-            return Err(StoreFault::Outside);
-        };
+        let row = self.find(n).ok_or(StoreFault::Outside)?;
         Ok(row.tag)
     }
 
     fn copy(&self, n: usize, buffer: &mut [u8]) -> Result<usize, StoreFault> {
-        let Some(row) = self.find(n) else {
-            return Err(StoreFault::Outside);
-        };
+        let row = self.find(n).ok_or(StoreFault::Outside)?;
         let size = row.len as usize;
         if size > buffer.len() {
             return Err(StoreFault::ShortBuffer);
         }
         let start = row.start;
         let stop = start + size;
-        write_front(buffer, &self.bytes[start..stop]);
+        buffer[0..size].copy_from_slice(&self.bytes.all[start..stop]);
         Ok(size)
     }
 
     fn put(&mut self, behind: usize, text: &[u8], tag: Tag) -> Result<(), StoreFault> {
-        let count = self.lines();
-        if let Err(fault) = check_put(count, self.most_lines(), behind, text, tag) {
-            return Err(fault);
-        }
+        check_put(self.count(), self.capacity(), behind, text, tag)?;
         self.bring(behind);
         self.put_at_gap(text, tag);
         Ok(())
     }
 
     fn remove(&mut self, n: usize) -> Result<(), StoreFault> {
-        let count = self.lines();
-        if n == 0 || n > count {
+        if n == 0 || n > self.count() {
             return Err(StoreFault::Outside);
         }
         self.bring(n);
@@ -76,8 +67,7 @@ impl LineStore for GapStore {
     }
 
     fn set_tag(&mut self, n: usize, tag: Tag) -> Result<(), StoreFault> {
-        let count = self.lines();
-        if n == 0 || n > count || !is_defined(tag) {
+        if n == 0 || n > self.count() || !is_defined(tag) {
             return Err(StoreFault::Outside);
         }
         self.retag(n, tag);

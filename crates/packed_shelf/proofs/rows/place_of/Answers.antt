@@ -1,15 +1,11 @@
-use Rattle.std.proofs.Common.{rules}
-use Rattle.std.proofs.lemmas.List.{take_all}
-use Rattle.packed_shelf.specs.Steps.{number_read, bearing_none_more}
+use Rattle.std.proofs.Common.{◌≡◌, ℕ, ◌<◌, ◌≢◌, length, get_or, MatchOption, rules}
+use Rattle.std.specs.List.{HoldsAt}
+use Rattle.packed_shelf.specs.declared.row.Row.{Row}
+use Rattle.packed_shelf.specs.Steps.{placed_first}
 use Rattle.packed_shelf.proofs.rows.place_of.Goals as goal
 
-pub returns-then-row-number : goal.returns-then-row-number
-returns-then-row-number c =
-    let n = number_read c.args.rows.now c.loop-i.i c.index-rows-i.result c.loop-i-test.true c.index-rows-i.is in
-    search rules
-
-pub loop-i-preserved : goal.loop-i-preserved
-loop-i-preserved c = bearing_none_more c.args.rows.now c.args.number c.loop-i.i c.index-rows-i.result c.loop-i-test.true c.index-rows-i.is c.if-row-number.false c.loop-i.invariant
-
 pub returns : goal.returns
-returns c = search (rules, take_all)
+returns c =
+    let rows = c.args.rows.now in
+    let found : MatchOption c.position.result ((p : ℕ) (d : Row) → p < length rows → (get_or rows p d).number ≢ c.args.number) (λ p. (p < length rows) × HoldsAt (λ (r : Row). r.number ≡ c.args.number) rows p) = search rules in
+    placed_first c.args.number rows c.position.result found

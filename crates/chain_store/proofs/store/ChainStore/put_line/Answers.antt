@@ -1,4 +1,4 @@
-use Rattle.std.proofs.Common.{◌≡◌, vec_items, arith, rules}
+use Rattle.std.proofs.Common.{◌≡◌, vec_items, rules}
 use Rattle.std.specs.Vec.{with_items}
 use Rattle.std.proofs.lemmas.List.{with_items_is}
 use Rattle.chain_store.specs.Chain.{relinked}
@@ -8,11 +8,6 @@ use Rattle.chain_store.proofs.store.ChainStore.put_line.Goals as goal
 pub overflow_sub-free : goal.overflow_sub-free
 overflow_sub-free c =
     (put-slot c.args.self.now c.args.behind c.number_at-place.result c.index.result.now c.requires.place c.requires.room c.number_at-place.ensures.value c.index.ensures).0
-
-pub index_mut-requires : goal.index_mut-requires
-index_mut-requires c =
-    let w = (put-slot c.args.self.now c.args.behind c.number_at-place.result c.index.result.now c.requires.place c.requires.room c.number_at-place.ensures.value c.index.ensures).1 in
-    omega arith
 
 pub invariant_of-self : goal.invariant_of-self
 invariant_of-self c =

@@ -1,74 +1,32 @@
-use Rattle.std.proofs.Common.{◌≡◌, ℕ, ◌+◌, ◌-◌, true, length, drop, vec_items, subst, arith, rules}
-use Rattle.lines.proofs.Fitting.{each_same}
-use Rattle.gap_store.specs.Rows.{laid}
+use Rattle.std.proofs.Common.{◌+◌, ◌-◌, vec_items, refl, arith, rules}
 use Rattle.gap_store.specs.Meaning.{meaning_of}
-use Rattle.gap_store.specs.Stored.{count_of, room_of, stop_of, offset_within, moved_lines}
+use Rattle.gap_store.specs.Stored.{Are, meaning_as, count_of, offset_within, moved_lines}
 use Rattle.gap_store.proofs.store.GapStore.bring.Goals as goal
 
-pub overflow_sub-byte_width : goal.overflow_sub-byte_width
+pub slide-offset-requires-clause-within : goal.slide-offset-requires-clause-within
 unfolding meaning_of
-overflow_sub-byte_width c = let room = room_of c.args.self.now in search rules
+slide-offset-requires-clause-within c = let count = count_of c.args.self.now in search rules
 
-pub slide_rows-offset-requires : goal.slide_rows-offset-requires
+pub slide-requires : goal.slide-requires
 unfolding meaning_of
-slide_rows-offset-requires c =
-    let count = count_of c.args.self.now in
-    let room = room_of c.args.self.now in
-    search rules
-
-pub slide_bytes-requires : goal.slide_bytes-requires
-unfolding meaning_of
-slide_bytes-requires c =
+slide-requires c =
     let s = c.args.self.now in
-    let room = room_of s in
-    let stop = stop_of s in
-    let here = c.slide_rows-offset.ensures.slid.here in
+    let here = c.slide-offset.ensures.slid.here in
     let within = offset_within s c.args.at in
-    (omega arith, (stop, omega arith))
+    omega arith
 
-pub overflow_add-self : goal.overflow_add-self
+pub returns-clause-same : goal.returns-clause-same
 unfolding meaning_of
-overflow_add-self c = let count = count_of c.args.self.now in search rules
-
-pub overflow_add-self-2 : goal.overflow_add-self-2
-unfolding meaning_of
-overflow_add-self-2 c =
+returns-clause-same c =
     let s = c.args.self.now in
-    let room = room_of s in
-    let stop = stop_of s in
-    let here = c.slide_rows-offset.ensures.slid.here in
-    let within = offset_within s c.args.at in
-    search rules
-
-pub invariant_of-self : goal.invariant_of-self
-unfolding meaning_of
-invariant_of-self c =
-    let s = c.args.self.now in
-    let count = count_of s in
-    let slid = c.slide_rows-offset.ensures.slid in
-    let m = c.args.at + (s.row_gap.end - s.row_gap.start) in
-    let o = c.slide_rows-offset.result + (s.byte_gap.end - s.byte_gap.start) in
-    let rows = vec_items c.slide_rows-offset.new.rows in
-    let bytes = vec_items c.slide_bytes.new.bytes in
-    let end : c.len-end.result ≡ length bytes = search rules in
-    record {
-      order = search rules;
-      last = search rules;
-      some = search rules;
-      bounded = search rules;
-      roomy = search rules;
-      front = slid.front;
-      behind = subst (λ (n : ℕ). laid o (drop m rows) n ≡ true) end slid.behind;
-      each = each_same _ _ (moved_lines s rows bytes c.args.at m c.slide_rows-offset.result o slid.same c.slide_bytes.ensures.same) s.each;
-    }
-
-pub returns : goal.returns
-unfolding meaning_of
-returns c =
-    let s = c.args.self.now in
-    let m = c.args.at + (s.row_gap.end - s.row_gap.start) in
-    let o = c.slide_rows-offset.result + (s.byte_gap.end - s.byte_gap.start) in
-    let rows = vec_items c.slide_rows-offset.new.rows in
-    let bytes = vec_items c.slide_bytes.new.bytes in
-    let same = moved_lines s rows bytes c.args.at m c.slide_rows-offset.result o c.slide_rows-offset.ensures.slid.same c.slide_bytes.ensures.same in
+    let rows = vec_items c.slide-offset.new.rows.all in
+    let bytes = vec_items c.slide.new.self.all in
+    let m = c.args.at + (s.rows.end - s.rows.start) in
+    let o = c.slide-offset.result + (s.bytes.end - s.bytes.start) in
+    let slid = c.slide-offset.ensures.slid in
+    let are : Are c.slide-offset.new.rows c.slide.new.self rows c.args.at m bytes c.slide-offset.result o =
+    record { rows_all = refl; rows_start = c.slide-offset.ensures.start; rows_end = c.slide-offset.ensures.end; bytes_all = refl; bytes_start = c.slide.ensures.start; bytes_end = c.slide.ensures.end }
+    in
+    let same = moved_lines s rows bytes c.args.at m c.slide-offset.result o slid.same c.slide.ensures.same in
+    let whole = meaning_as are in
     search rules

@@ -1,4 +1,5 @@
 use Rattle.std.proofs.Common.{ℕ, ◌+◌, ◌-◌, ◌<◌, ◌≤◌, cond, length, is_ok, vec_items, Result, sym, ap, ◌∙◌, arith, rules}
+use Rattle.std.proofs.lemmas.Option.{MatchOption-at_some}
 use Rattle.shelf.specs.declared.fault.ShelfFault.{ShelfFault}
 use Rattle.shelf.specs.Shelf.{with_files}
 use Rattle.packed_shelf.specs.Clearing.{old_emptied}
@@ -10,32 +11,24 @@ use Rattle.packed_shelf.specs.Kept.{held_is}
 use Rattle.packed_shelf.specs.State.{kept, placed-from, emptied_left}
 use Rattle.packed_shelf.proofs.packed.PackedShelf.empty_old.Goals as goal
 
-pub overflow_add-free : goal.overflow_add-free
-overflow_add-free c =
-    let s = c.args.self.now in
-    let h = held_is (vec_items s.rows) (vec_items s.bytes) (kept s) in
-    let o = old_held (vec_items s.rows) (vec_items s.bytes) (kept s) c.args.file c.in-Some.place (placed-from c.in-Some.ensures) c.index.result.now c.index.ensures in
-    let b = s.bounded in
-    omega arith
-
 pub returns-then-size-free : goal.returns-then-size-free
 returns-then-size-free c =
     let s = c.args.self.now in
     let rows = vec_items s.rows in
     let bytes = vec_items s.bytes in
     let r = c.index.result.now in
-    let placed = placed-from c.in-Some.ensures in
+    let placed = placed-from (MatchOption-at_some _ _ _ c.in_ok-place.ensures.ok_part c.place.ensures) in
     let h = held_is rows bytes (kept s) in
-    let o = old_held rows bytes (kept s) c.args.file c.in-Some.place placed r c.index.ensures in
+    let o = old_held rows bytes (kept s) c.args.file c.in_ok-place.place placed r c.index.ensures in
     let over : length bytes < total rows - r.size + c.args.size = omega arith in
-    let a = old_full rows bytes (kept s) c.args.file c.in-Some.place placed r c.index.ensures c.args.size over in
+    let a = old_full rows bytes (kept s) c.args.file c.in_ok-place.place placed r c.index.ensures c.args.size over in
     search rules
 
 pub invariant_of-self-2 : goal.invariant_of-self-2
 invariant_of-self-2 c =
     let s = c.args.self.now in
-    let k = (emptied_left s c.args.file c.in-Some.place (placed-from c.in-Some.ensures) _ c.empty_file.new.rows _ c.empty_file.new.bytes
-    c.as_mut_slice.ensures.value c.as_mut_slice-2.ensures.value c.empty_file.ensures.rows c.empty_file.ensures.bytes).0 in
+    let k = (emptied_left s c.args.file c.in_ok-place.place (placed-from (MatchOption-at_some _ _ _ c.in_ok-place.ensures.ok_part c.place.ensures)) _ c.empty_file.new.rows _ c.empty_file.new.bytes
+    c.deref_mut.ensures.value c.deref_mut-2.ensures.value c.empty_file.ensures.rows c.empty_file.ensures.bytes).0 in
     record {
       few = k.few;
       reserved = s.reserved;
@@ -52,16 +45,16 @@ returns c =
     let rows = vec_items s.rows in
     let bytes = vec_items s.bytes in
     let r = c.index.result.now in
-    let placed = placed-from c.in-Some.ensures in
+    let placed = placed-from (MatchOption-at_some _ _ _ c.in_ok-place.ensures.ok_part c.place.ensures) in
     let h = held_is rows bytes (kept s) in
-    let o = old_held rows bytes (kept s) c.args.file c.in-Some.place placed r c.index.ensures in
+    let o = old_held rows bytes (kept s) c.args.file c.in_ok-place.place placed r c.index.ensures in
     let room : total rows - r.size + c.args.size ≤ length bytes = omega arith in
-    let a = old_fits rows bytes (kept s) c.args.file c.in-Some.place placed r c.index.ensures c.args.size room in
+    let a = old_fits rows bytes (kept s) c.args.file c.in_ok-place.place placed r c.index.ensures c.args.size room in
     let t = packed rows bytes in
     record {
       value = sym a;
       after =
-          (emptied_left s c.args.file c.in-Some.place placed _ c.empty_file.new.rows _ c.empty_file.new.bytes
-          c.as_mut_slice.ensures.value c.as_mut_slice-2.ensures.value c.empty_file.ensures.rows c.empty_file.ensures.bytes).1
+          (emptied_left s c.args.file c.in_ok-place.place placed _ c.empty_file.new.rows _ c.empty_file.new.bytes
+          c.deref_mut.ensures.value c.deref_mut-2.ensures.value c.empty_file.ensures.rows c.empty_file.ensures.bytes).1
           ∙ sym (ap (λ (q : Result ℕ ShelfFault). cond (is_ok q) (with_files t (old_emptied t c.args.file)) t) a);
     }

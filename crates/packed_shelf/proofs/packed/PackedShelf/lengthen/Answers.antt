@@ -24,7 +24,7 @@ invariant_of-self c =
     let more = c.args.more.now in
     let p = c.args.place in
     let k = (longer_left s (number_at (vec_items s.rows) p) p (record { within = c.requires.within; number = refl }) _ c.lengthen_file.new.rows _ c.lengthen_file.new.bytes
-    c.as_mut_slice.ensures.value c.as_mut_slice-2.ensures.value more (room-from s (length more) c.requires.fits) c.lengthen_file.ensures.rows c.lengthen_file.ensures.bytes).0 in
+    c.deref_mut.ensures.value c.deref_mut-2.ensures.value more (room-from s (length more) c.requires.fits) c.lengthen_file.ensures.rows c.lengthen_file.ensures.bytes).0 in
     record {
       few = k.few;
       reserved = s.reserved;
@@ -41,4 +41,4 @@ returns c =
     let more = c.args.more.now in
     let p = c.args.place in
     (longer_left s (number_at (vec_items s.rows) p) p (record { within = c.requires.within; number = refl }) _ c.lengthen_file.new.rows _ c.lengthen_file.new.bytes
-    c.as_mut_slice.ensures.value c.as_mut_slice-2.ensures.value more (room-from s (length more) c.requires.fits) c.lengthen_file.ensures.rows c.lengthen_file.ensures.bytes).1
+    c.deref_mut.ensures.value c.deref_mut-2.ensures.value more (room-from s (length more) c.requires.fits) c.lengthen_file.ensures.rows c.lengthen_file.ensures.bytes).1

@@ -1,4 +1,5 @@
-use Rattle.std.proofs.Common.{◌≡◌, ℕ, ◌+◌, ◌<◌, ◌≤◌, cond, List, [], ◌∷◌, ◌++◌, length, is_ok, Ok, vec_items, Result, sym, refl, ap, ◌∙◌, subst, arith, rules}
+use Rattle.std.proofs.Common.{ℕ, ◌+◌, ◌<◌, ◌≤◌, cond, List, [], ◌∷◌, ◌++◌, length, is_ok, Ok, vec_items, Result, sym, refl, ap, ◌∙◌, subst, arith, rules}
+use Rattle.std.proofs.lemmas.Option.{MatchOption-at_some}
 use Rattle.shelf.specs.declared.fault.ShelfFault.{ShelfFault}
 use Rattle.shelf.specs.Shelf.{with_files}
 use Rattle.shelf.proofs.Lookup.{none_named}
@@ -7,38 +8,22 @@ use Rattle.packed_shelf.specs.Clearing.{new_made}
 use Rattle.packed_shelf.specs.Packed.{packed}
 use Rattle.packed_shelf.specs.Rows.{total}
 use Rattle.packed_shelf.specs.After.{new_after_lem, new_kept}
-use Rattle.packed_shelf.proofs.Answered.{new-many, new_full, new_fits}
+use Rattle.packed_shelf.proofs.Answered.{new_fits}
 use Rattle.packed_shelf.specs.Kept.{Kept, held_is}
 use Rattle.packed_shelf.specs.State.{kept}
 use Rattle.packed_shelf.proofs.packed.PackedShelf.make_new.Goals as goal
-
-pub returns-then-number-eq-FILES_MAX : goal.returns-then-number-eq-FILES_MAX
-returns-then-number-eq-FILES_MAX c =
-    let s = c.args.self.now in
-    let m = s.rows.ok.0 in
-    let many : length (vec_items s.rows) ≡ 8 = omega arith in
-    let a = new-many (vec_items s.rows) (vec_items s.bytes) (kept s) c.args.name.now c.args.size many in
-    search rules
-
-pub returns-then-size-free : goal.returns-then-size-free
-returns-then-size-free c =
-    let s = c.args.self.now in
-    let h = held_is (vec_items s.rows) (vec_items s.bytes) (kept s) in
-    let over : length (vec_items s.bytes) < total (vec_items s.rows) + c.args.size = omega arith in
-    let a = new_full (vec_items s.rows) (vec_items s.bytes) (kept s) c.args.name.now c.args.size over in
-    search rules
 
 pub invariant_of-self : goal.invariant_of-self
 invariant_of-self c =
     let s = c.args.self.now in
     let rows = vec_items s.rows in
     let bytes = vec_items s.bytes in
-    let r : Row = record { number = c.len-number.result; name = c.in-Some.label; size = 0 } in
+    let r : Row = record { number = c.len-number.result; name = c.in_ok-label.label; size = 0 } in
     let m = s.rows.ok.0 in
     let few = s.few in
     let free : length rows < 8 = omega arith in
     let k : Kept (rows ++ r ∷ []) bytes =
-    new_kept rows bytes (kept s) r c.args.name.now (c.len-number.ensures ∙ m) c.in-Some.ensures.1 refl free c.requires.good
+    new_kept rows bytes (kept s) r c.args.name.now (c.len-number.ensures ∙ m) (MatchOption-at_some _ _ _ c.in_ok-label.ensures.ok_part c.new.ensures).1 refl free c.requires.good
     (none_named (packed rows bytes) c.args.name.now c.requires.missing) in
     let q : Kept (vec_items c.push_reserved.new.self) bytes = subst (λ (rs : List Row). Kept rs bytes) (sym c.push_reserved.ensures.items) k in
     record {
@@ -56,7 +41,7 @@ returns c =
     let s = c.args.self.now in
     let rows = vec_items s.rows in
     let bytes = vec_items s.bytes in
-    let r : Row = record { number = c.len-number.result; name = c.in-Some.label; size = 0 } in
+    let r : Row = record { number = c.len-number.result; name = c.in_ok-label.label; size = 0 } in
     let n = c.args.name.now in
     let m = s.rows.ok.0 in
     let few = s.few in
@@ -69,6 +54,6 @@ returns c =
       value = ap Ok (c.len-number.ensures ∙ m) ∙ sym a;
       after =
           ap (λ (rs : List Row). packed rs bytes) c.push_reserved.ensures.items
-          ∙ (new_after_lem rows bytes (kept s) r n (c.len-number.ensures ∙ m) c.in-Some.ensures.1 refl
+          ∙ (new_after_lem rows bytes (kept s) r n (c.len-number.ensures ∙ m) (MatchOption-at_some _ _ _ c.in_ok-label.ensures.ok_part c.new.ensures).1 refl
           ∙ sym (ap (λ (q : Result ℕ ShelfFault). cond (is_ok q) (with_files t (new_made t n)) t) a));
     }

@@ -8,4 +8,4 @@ pub returns : goal.returns
 returns c =
     let k = c.args.file in
     let o = c.place_of.result in
-    found_from c.args.self.now k o (subst (λ (rs : List Row). MatchOption o (bearing k rs ≡ 0) (λ p. Placed rs k p)) c.as_slice.ensures.value c.place_of.ensures)
+    found_from c.args.self.now k o (subst (λ (rs : List Row). MatchOption o (bearing k rs ≡ 0) (λ p. Placed rs k p)) c.deref.ensures.value c.place_of.ensures)

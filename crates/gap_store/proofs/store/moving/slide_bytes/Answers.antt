@@ -1,6 +1,0 @@
-use Rattle.std.proofs.Common.{rules}
-use Rattle.std.proofs.lemmas.List.{with_items_is}
-use Rattle.gap_store.proofs.store.moving.slide_bytes.Goals as goal
-
-pub returns : goal.returns
-returns c = search (rules, with_items_is)
