@@ -43,7 +43,7 @@ reckoned_pieces r (new t ∷ ps) = reckoned_pieces (reckoned_line r (line_of t))
 abbrev pub none_reckoned : Reckoned
 none_reckoned = record { count = 0; fits = true; last = None }
 
--- what is right of the lines that a text would have, of which line `best` is the last one created, or none is where that is 0
+-- what was reckoned is right of a text of these lines, where line `best` is the last one created, or none is and `best` is 0
 pub record Right (lines : List Line) (best : ℕ) (r : Reckoned) : Type 0 where
   pub count : r.count ≡ min (length lines) 4097
   pub fits : r.fits ≡ all_fit (texts_of lines)

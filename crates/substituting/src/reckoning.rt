@@ -1,5 +1,5 @@
 // What a substitution would make of a text, before anything is altered.
-ghost use Rattle.std.specs.Prelude.{◌≡◌, ℕ, ◌+◌, ◌≤◌, min, true, List, length, IfSome};
+ghost use Rattle.std.specs.Prelude.{◌≡◌, ◌+◌, ◌≤◌, min, true, length, IfSome};
 ghost use Rattle.lines.specs.Line.{all_fit};
 ghost use Rattle.lines.specs.Store.{line_at};
 ghost use Rattle.command.specs.View.{substitution_view};
@@ -54,7 +54,7 @@ pub fn reckon<T: LineStore>(text: &T, range: Range, substitution: Substitution<'
     reckon_lines(text, range, &Rule::new(substitution))
 }
 
-// The same with the pattern. The lines in front of the range and behind it stay.
+// The same by the rule. The lines in front of the range and behind it stay.
 fn reckon_lines<T: LineStore>(text: &T, range: Range, rule: &Rule<'_>) -> Reckoned
     requires { range.count ≡ length (T.LineStore.meaning text.now).lines }
     ensures { Right (after rule.now.substitution range (T.LineStore.meaning text.now)) (last_new 0 0 (pieces_of rule.now.substitution range (T.LineStore.meaning text.now))) result }
@@ -73,7 +73,7 @@ fn reckon_lines<T: LineStore>(text: &T, range: Range, rule: &Rule<'_>) -> Reckon
     }
 }
 
-// So many lines and some more.
+// The sum of two numbers of lines, as it is reckoned.
 fn plus(count: usize, more: usize) -> usize
     ensures { result ≡ min (count + more) 4097 }
 {

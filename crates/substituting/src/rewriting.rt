@@ -30,7 +30,7 @@ pub fn rewrite<T: LineStore>(text: &mut T, range: Range, substitution: Substitut
     rewrite_lines(text, range, &Rule::new(substitution));
 }
 
-// The lines of the range, with the pattern.
+// The same by the rule.
 fn rewrite_lines<T: LineStore>(text: &mut T, range: Range, rule: &Rule<'_>)
     requires count { range.count ≡ length (T.LineStore.meaning text.old).lines }
     requires fits { all_fit (texts_of (after rule.now.substitution range (T.LineStore.meaning text.old))) ≡ true }

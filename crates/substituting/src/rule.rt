@@ -18,7 +18,7 @@ pub struct Rule<'a> {
 }
 
 impl<'a> Rule<'a> {
-    // With the pattern read, once for all lines.
+    // The rule of a substitution. Its pattern is read here, once for all lines.
     pub fn new(substitution: Substitution<'a>) -> Rule<'a>
         ensures { result.substitution ≡ substitution.entry }
     {

@@ -1,8 +1,7 @@
 // A step through the lines that a text becomes.
-ghost use Rattle.std.specs.Prelude.{◌≡◌, ◌≤◌, false, [], length, MatchOption, Some};
+ghost use Rattle.std.specs.Prelude.{◌≡◌, ◌≤◌, [], length};
 ghost use Rattle.command.specs.Replacements.{bits_of};
 ghost use Rattle.command.specs.View.{substitution_view, sought_view};
-ghost use Rattle.rules.specs.Patterns.{found, matches_from};
 ghost use Rattle.substituting.specs.Places.{Placed};
 ghost use Rattle.substituting.specs.Spelling.{Stepped, Behind, Found, token_of, empty_after, passing};
 
