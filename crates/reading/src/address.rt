@@ -12,43 +12,39 @@ use command::mark::Mark;
 use command::said::{Address, Base};
 
 // The mark that the first byte names.
+#[tactic(auto, unfolding(crate::specs::Addresses::mark_at))]
 pub(crate) fn read_mark(bytes: &[u8]) -> Result<(Mark, &[u8]), Fault>
     ensures value { part_seen (λ m. m.letter) result ≡ mark_at bytes.now }
     ensures shorter { IfOk result (λ x. length x.1.now < length bytes.now) }
 {
-    let Some((byte, rest)) = bytes.split_first() else {
-        return Err(Fault::BadCommand);
-    };
-    match Mark::named(*byte) {
-        Some(mark) => Ok((mark, rest)),
-        None => Err(Fault::BadCommand),
-    }
+    let (byte, rest) = bytes.split_first().ok_or(Fault::BadCommand)?;
+    let mark = Mark::named(*byte).ok_or(Fault::BadCommand)?;
+    Ok((mark, rest))
 }
 
 // What an address begins with. Offsets alone count from the current line.
+#[tactic(auto, unfolding(crate::specs::Addresses::base_at))]
 fn read_base(bytes: &[u8]) -> Result<(Base<'_>, &[u8]), Fault>
     ensures value { part_seen base_view result ≡ base_at bytes.now }
     ensures shorter { IfOk result (λ x. length x.1.now ≤ length bytes.now) }
 {
-    let Some((byte, rest)) = bytes.split_first() else {
-        return Err(Fault::BadAddress);
-    };
+    let (byte, rest) = bytes.split_first().ok_or(Fault::BadAddress)?;
     match *byte {
         b'.' => Ok((Base::AtCurrent, rest)),
         b'$' => Ok((Base::AtLast, rest)),
-        b'\'' => match read_mark(rest) {
-            Ok((mark, rest)) => Ok((Base::AtMark(mark), rest)),
-            Err(fault) => Err(fault),
-        },
-        b'/' => match cut_pattern(b'/', rest) {
-            Ok((part, rest)) => Ok((Base::AtMatch(part), rest)),
-            Err(fault) => Err(fault),
-        },
+        b'\'' => {
+            let (mark, behind) = read_mark(rest)?;
+            Ok((Base::AtMark(mark), behind))
+        }
+        b'/' => {
+            let (part, behind) = cut_pattern(b'/', rest)?;
+            Ok((Base::AtMatch(part), behind))
+        }
         b'+' | b'-' => Ok((Base::AtCurrent, bytes)),
-        _ => match read_number(bytes) {
-            Ok((number, rest)) => Ok((Base::AtNumber(number), rest)),
-            Err(fault) => Err(fault),
-        },
+        _ => {
+            let (number, behind) = read_number(bytes)?;
+            Ok((Base::AtNumber(number), behind))
+        }
     }
 }
 
@@ -56,11 +52,8 @@ fn read_base(bytes: &[u8]) -> Result<(Base<'_>, &[u8]), Fault>
 fn split_sign(bytes: &[u8]) -> Option<(u8, &[u8])>
     ensures { MatchOption result (begins is_sign bytes.now ≡ false) (λ x. (bytes.now ≡ x.0 ∷ x.1.now) × (is_sign x.0 ≡ true)) }
 {
-    let Some((sign, rest)) = bytes.split_first() else {
-        return None;
-    };
-    match *sign {
-        b'+' | b'-' => Some((*sign, rest)),
+    match bytes {
+        [sign @ (b'+' | b'-'), rest @ ..] => Some((*sign, rest)),
         _ => None,
     }
 }
@@ -75,10 +68,7 @@ fn read_offsets<'a>(base: Base<'a>, bytes: &'a [u8]) -> Result<(Address<'a>, &'a
     let mut back: u32 = 0;
     let mut rest = bytes;
     while let Some((sign, digits)) = split_sign(rest) {
-        let (number, behind) = match read_number(digits) {
-            Ok(read) => read,
-            Err(fault) => return Err(fault),
-        };
+        let (number, behind) = read_number(digits)?;
         if sign == b'+' {
             ahead += number as u32;
         } else {
@@ -90,14 +80,12 @@ fn read_offsets<'a>(base: Base<'a>, bytes: &'a [u8]) -> Result<(Address<'a>, &'a
 }
 
 // An address. Where none begins, it is missing.
+#[tactic(auto, unfolding(crate::specs::Addresses::address_at))]
 pub(crate) fn read_address(bytes: &[u8]) -> Result<(Address<'_>, &[u8]), Fault>
     requires { length bytes.now ≤ 1000 }
     ensures value { part_seen address_view result ≡ address_at bytes.now }
     ensures shorter { IfOk result (λ x. length x.1.now ≤ length bytes.now) }
 {
-    let (base, rest) = match read_base(bytes) {
-        Ok(read) => read,
-        Err(fault) => return Err(fault),
-    };
+    let (base, rest) = read_base(bytes)?;
     read_offsets(base, rest)
 }

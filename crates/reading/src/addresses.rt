@@ -10,6 +10,7 @@ use command::fault::Fault;
 use command::said::{Address, Addresses, Base};
 
 // No address, one, or two.
+#[tactic(auto, unfolding(crate::specs::Addresses::addresses_at))]
 pub(crate) fn read_addresses(bytes: &[u8]) -> Result<(Addresses<'_>, &[u8]), Fault>
     requires { length bytes.now ≤ 1000 }
     ensures value { part_seen addresses_view result ≡ addresses_at bytes.now }
@@ -18,10 +19,7 @@ pub(crate) fn read_addresses(bytes: &[u8]) -> Result<(Addresses<'_>, &[u8]), Fau
     if !opens_address(bytes) {
         return read_without_first(bytes);
     }
-    let (first, rest) = match read_address(bytes) {
-        Ok(read) => read,
-        Err(fault) => return Err(fault),
-    };
+    let (first, rest) = read_address(bytes)?;
     read_after_first(first, rest)
 }
 
@@ -29,12 +27,9 @@ pub(crate) fn read_addresses(bytes: &[u8]) -> Result<(Addresses<'_>, &[u8]), Fau
 fn opens_address(bytes: &[u8]) -> bool
     ensures { result ≡ begins opens_address bytes.now }
 {
-    let Some((byte, _)) = bytes.split_first() else {
-        return false;
-    };
     matches!(
-        *byte,
-        b'.' | b'$' | b'\'' | b'/' | b'+' | b'-' | b'0'..=b'9'
+        bytes,
+        [b'.' | b'$' | b'\'' | b'/' | b'+' | b'-' | b'0'..=b'9', ..]
     )
 }
 
@@ -48,16 +43,14 @@ fn at_comma(bytes: &[u8]) -> bool
 fn split_comma(bytes: &[u8]) -> Option<&[u8]>
     ensures { MatchOption result (begins is_comma bytes.now ≡ false) (λ rest. bytes.now ≡ 44 ∷ rest.now) }
 {
-    let Some((byte, rest)) = bytes.split_first() else {
-        return None;
-    };
-    if *byte != b',' {
-        return None;
+    match bytes {
+        [b',', rest @ ..] => Some(rest),
+        _ => None,
     }
-    Some(rest)
 }
 
 // Without a first address: nothing, or a comma by itself, which stands for `1,$`.
+#[tactic(auto, unfolding(crate::specs::Addresses::without_first))]
 fn read_without_first(bytes: &[u8]) -> Result<(Addresses<'_>, &[u8]), Fault>
     ensures value { part_seen addresses_view result ≡ without_first bytes.now }
     ensures shorter { IfOk result (λ x. length x.1.now ≤ length bytes.now) }
@@ -82,6 +75,7 @@ fn read_without_first(bytes: &[u8]) -> Result<(Addresses<'_>, &[u8]), Fault>
 }
 
 // A first address by itself, or a comma and the second.
+#[tactic(auto, unfolding(crate::specs::Addresses::after_first))]
 fn read_after_first<'a>(
     first: Address<'a>,
     bytes: &'a [u8],
@@ -97,15 +91,13 @@ fn read_after_first<'a>(
 }
 
 // The second address, and no further comma.
+#[tactic(auto, unfolding(crate::specs::Addresses::second_at))]
 fn read_second<'a>(first: Address<'a>, bytes: &'a [u8]) -> Result<(Addresses<'a>, &'a [u8]), Fault>
     requires { length bytes.now ≤ 1000 }
     ensures value { part_seen addresses_view result ≡ second_at (address_view first.entry) bytes.now }
     ensures shorter { IfOk result (λ x. length x.1.now ≤ length bytes.now) }
 {
-    let (second, rest) = match read_address(bytes) {
-        Ok(read) => read,
-        Err(fault) => return Err(fault),
-    };
+    let (second, rest) = read_address(bytes)?;
     if at_comma(rest) {
         return Err(Fault::BadAddress);
     }

@@ -25,30 +25,24 @@ pub fn read_command(line: &[u8], setting: Setting) -> Result<Said<'_>, Fault>
 }
 
 // Addresses, a letter, and what it wants behind it.
+#[tactic(auto, unfolding(crate::specs::Commands::said_in))]
 fn read_said(line: &[u8], setting: Setting) -> Result<Said<'_>, Fault>
     requires { length line.now ≤ 1000 }
     ensures { seen said_view result ≡ said_in (setting_view setting) line.now }
 {
-    let (addresses, rest) = match read_addresses(line) {
-        Ok(read) => read,
-        Err(fault) => return Err(fault),
-    };
-    match read_letter(rest, setting, are_given(addresses)) {
-        Ok(command) => Ok(Said { addresses, command }),
-        Err(fault) => Err(fault),
-    }
+    let (addresses, rest) = read_addresses(line)?;
+    let command = read_letter(rest, setting, are_given(addresses))?;
+    Ok(Said { addresses, command })
 }
 
 fn are_given(addresses: Addresses<'_>) -> bool
     ensures { result ≡ is_given (addresses_view addresses.entry) }
 {
-    match addresses {
-        Addresses::NoAddress => false,
-        Addresses::OneAddress(_) | Addresses::TwoAddresses(..) => true,
-    }
+    !matches!(addresses, Addresses::NoAddress)
 }
 
 // The command behind the addresses. No letter is the empty command.
+#[tactic(auto, unfolding(crate::specs::Commands::command_at))]
 fn read_letter(bytes: &[u8], setting: Setting, addressed: bool) -> Result<Command<'_>, Fault>
     requires { length bytes.now ≤ 1000 }
     ensures { seen command_view result ≡ command_at (setting_view setting) addressed bytes.now }
@@ -56,9 +50,7 @@ fn read_letter(bytes: &[u8], setting: Setting, addressed: bool) -> Result<Comman
     let [letter, rest @ ..] = bytes else {
         return Ok(Command::Act(Action::PrintNext));
     };
-    let Some(rights) = rights_of(*letter) else {
-        return Err(Fault::BadCommand);
-    };
+    let rights = rights_of(*letter).ok_or(Fault::BadCommand)?;
     if setting.in_list && !rights.listed {
         return Err(Fault::NotInList);
     }

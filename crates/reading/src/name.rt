@@ -9,43 +9,36 @@ use command::said::FileName;
 use shelf::name::is_name;
 
 // The name, parted from the letter by a space at least, or the remembered one.
+#[tactic(auto, unfolding(crate::specs::Names::name_at))]
 pub(crate) fn read_name(bytes: &[u8], has_name: bool) -> Result<FileName<'_>, Fault>
     ensures { seen name_view result ≡ name_at has_name bytes.now }
 {
-    let Some((byte, rest)) = bytes.split_first() else {
-        return name_or_remembered(bytes, has_name);
-    };
-    if *byte != b' ' {
-        return Err(Fault::BadCommand);
+    match bytes {
+        [] => name_or_remembered(bytes, has_name),
+        [b' ', rest @ ..] => name_or_remembered(skip_spaces(rest), has_name),
+        _ => Err(Fault::BadCommand),
     }
-    name_or_remembered(skip_spaces(rest), has_name)
 }
 
 fn skip_spaces(bytes: &[u8]) -> &[u8]
     ensures { result.now ≡ behind_spaces bytes.now }
 {
     let mut rest = bytes;
-    while let Some((byte, behind)) = rest.split_first() {
-        if *byte != b' ' {
-            return rest;
-        }
+    while let [b' ', behind @ ..] = rest {
         rest = behind;
     }
     rest
 }
 
 // All that is left of the line is the name. Nothing means the remembered one.
+#[tactic(auto, unfolding(crate::specs::Names::name_of))]
 fn name_or_remembered(bytes: &[u8], has_name: bool) -> Result<FileName<'_>, Fault>
     ensures { seen name_view result ≡ name_of has_name bytes.now }
 {
-    if bytes.is_empty() {
-        if !has_name {
-            return Err(Fault::NoName);
-        }
-        return Ok(FileName::Remembered);
+    match bytes {
+        [] if has_name => Ok(FileName::Remembered),
+        [] => Err(Fault::NoName),
+        _ if is_name(bytes) => Ok(FileName::Given(bytes)),
+        _ => Err(Fault::BadName),
     }
-    if !is_name(bytes) {
-        return Err(Fault::BadName);
-    }
-    Ok(FileName::Given(bytes))
 }

@@ -1,5 +1,5 @@
 // Reading a number.
-ghost use Rattle.std.specs.Prelude.{◌≡◌, ◌<◌, ◌≤◌, length, IfOk};
+ghost use Rattle.std.specs.Prelude.{◌≡◌, ◌<◌, ◌≤◌, length, IfOk, IfSome};
 ghost use Rattle.reading.specs.Addresses.{digit_at, number_at};
 ghost use Rattle.reading.specs.Views.{front_seen, part_seen};
 
@@ -13,11 +13,8 @@ pub(crate) fn read_number(bytes: &[u8]) -> Result<(u16, &[u8]), Fault>
     ensures value { part_seen (λ n. n) result ≡ number_at bytes.now }
     ensures within { IfOk result (λ x. (x.0 ≤ 65535) × (length x.1.now < length bytes.now)) }
 {
-    if split_digit(bytes).is_none() {
-        return Err(Fault::BadAddress);
-    }
-    let mut value: u32 = 0;
-    let mut rest = bytes;
+    let (first, mut rest) = split_digit(bytes).ok_or(Fault::BadAddress)?;
+    let mut value = first as u32;
     while let Some((digit, behind)) = split_digit(rest) {
         value = value * 10 + digit as u32;
         if value > NUMBER_MAX {
@@ -29,14 +26,13 @@ pub(crate) fn read_number(bytes: &[u8]) -> Result<(u16, &[u8]), Fault>
 }
 
 // The value of the digit at the front, and what stands behind it.
+#[tactic(auto, unfolding(crate::specs::Addresses::digit_at))]
 fn split_digit(bytes: &[u8]) -> Option<(u8, &[u8])>
-    ensures { front_seen result ≡ digit_at bytes.now }
+    ensures value { front_seen result ≡ digit_at bytes.now }
+    ensures shorter { IfSome result (λ x. length x.1.now < length bytes.now) }
 {
-    let Some((byte, rest)) = bytes.split_first() else {
-        return None;
-    };
-    if *byte < b'0' || *byte > b'9' {
-        return None;
+    match bytes {
+        [digit @ b'0'..=b'9', rest @ ..] => Some((*digit - b'0', rest)),
+        _ => None,
     }
-    Some((*byte - b'0', rest))
 }

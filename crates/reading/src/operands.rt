@@ -12,6 +12,7 @@ use command::fault::Fault;
 use command::said::{Action, Chooser, Command, Substitution};
 
 // What the letter wants behind it.
+#[tactic(auto, unfolding(crate::specs::Commands::rule_for, crate::specs::Commands::editing, crate::specs::Commands::writing, crate::specs::Commands::choosing))]
 pub(crate) fn read_operands(letter: u8, rest: &[u8], has_name: bool) -> Result<Command<'_>, Fault>
     requires { length rest.now ≤ 1000 }
     ensures { seen command_view result ≡ operands_by has_name rest.now (rule_for letter) }
@@ -24,17 +25,24 @@ pub(crate) fn read_operands(letter: u8, rest: &[u8], has_name: bool) -> Result<C
         b'p' => read_alone(Command::Act(Action::PrintLines), rest),
         b'=' => read_alone(Command::Act(Action::PrintNumber), rest),
         b's' => read_substituting(rest),
-        b'e' => read_editing(rest, has_name),
-        b'w' => read_writing(rest, has_name),
+        b'e' => Ok(Command::EditFile(read_name(rest, has_name)?)),
+        b'w' => Ok(Command::Act(Action::WriteFile(read_name(rest, has_name)?))),
         b'q' => read_alone(Command::QuitSession, rest),
         b'u' => read_alone(Command::UndoChange, rest),
-        b'g' => read_matching(rest),
-        b'v' => read_lacking(rest),
+        b'g' => {
+            let (sought, list) = read_sought(rest)?;
+            Ok(Command::Global(Chooser::Matching(sought), list))
+        }
+        b'v' => {
+            let (sought, list) = read_sought(rest)?;
+            Ok(Command::Global(Chooser::Lacking(sought), list))
+        }
         _ => Err(Fault::BadCommand),
     }
 }
 
 // A command with nothing behind it.
+#[tactic(auto, unfolding(crate::specs::Commands::alone))]
 fn read_alone<'a>(command: Command<'a>, rest: &'a [u8]) -> Result<Command<'a>, Fault>
     ensures { seen command_view result ≡ alone (command_view command.entry) rest.now }
 {
@@ -45,30 +53,26 @@ fn read_alone<'a>(command: Command<'a>, rest: &'a [u8]) -> Result<Command<'a>, F
 }
 
 // `k`: a letter and nothing else.
+#[tactic(auto, unfolding(crate::specs::Commands::marking))]
 fn read_marking(rest: &[u8]) -> Result<Command<'_>, Fault>
     ensures { seen command_view result ≡ marking rest.now }
 {
-    match read_mark(rest) {
-        Ok((mark, behind)) => read_alone(Command::Act(Action::MarkLine(mark)), behind),
-        Err(fault) => Err(fault),
-    }
+    let (mark, behind) = read_mark(rest)?;
+    read_alone(Command::Act(Action::MarkLine(mark)), behind)
 }
 
 // `m`: one address and nothing else.
+#[tactic(auto, unfolding(crate::specs::Commands::moving))]
 fn read_moving(rest: &[u8]) -> Result<Command<'_>, Fault>
     requires { length rest.now ≤ 1000 }
     ensures { seen command_view result ≡ moving rest.now }
 {
-    match read_address(rest) {
-        Ok((destination, behind)) => read_alone(
-            Command::Act(Action::MoveLines(destination)),
-            behind,
-        ),
-        Err(fault) => Err(fault),
-    }
+    let (destination, behind) = read_address(rest)?;
+    read_alone(Command::Act(Action::MoveLines(destination)), behind)
 }
 
 // The flags of `s`: whether all matches are meant, and whether to print.
+#[tactic(auto, unfolding(crate::specs::Commands::flags_of))]
 fn read_flags(bytes: &[u8]) -> Result<(bool, bool), Fault>
     ensures { result ≡ flags_of bytes.now }
 {
@@ -82,64 +86,17 @@ fn read_flags(bytes: &[u8]) -> Result<(bool, bool), Fault>
 }
 
 // `s`: a pattern, a replacement and flags.
+#[tactic(auto, unfolding(crate::specs::Commands::substituting))]
 fn read_substituting(rest: &[u8]) -> Result<Command<'_>, Fault>
     ensures { seen command_view result ≡ substituting rest.now }
 {
-    let (sought, behind) = match read_sought(rest) {
-        Ok(read) => read,
-        Err(fault) => return Err(fault),
-    };
-    let (replacement, flags) = match cut_part(sought.delimiter, behind) {
-        Ok(cut) => cut,
-        Err(fault) => return Err(fault),
-    };
-    match read_flags(flags) {
-        Ok((all, print)) => Ok(Command::Act(Action::Substitute(Substitution {
-            sought,
-            replacement,
-            all,
-            print,
-        }))),
-        Err(fault) => Err(fault),
-    }
-}
-
-// `e`: a name.
-fn read_editing(rest: &[u8], has_name: bool) -> Result<Command<'_>, Fault>
-    ensures { seen command_view result ≡ editing has_name rest.now }
-{
-    match read_name(rest, has_name) {
-        Ok(name) => Ok(Command::EditFile(name)),
-        Err(fault) => Err(fault),
-    }
-}
-
-// `w`: a name.
-fn read_writing(rest: &[u8], has_name: bool) -> Result<Command<'_>, Fault>
-    ensures { seen command_view result ≡ writing has_name rest.now }
-{
-    match read_name(rest, has_name) {
-        Ok(name) => Ok(Command::Act(Action::WriteFile(name))),
-        Err(fault) => Err(fault),
-    }
-}
-
-// `g`: a pattern and a list.
-fn read_matching(rest: &[u8]) -> Result<Command<'_>, Fault>
-    ensures { seen command_view result ≡ choosing matching_lines rest.now }
-{
-    match read_sought(rest) {
-        Ok((sought, list)) => Ok(Command::Global(Chooser::Matching(sought), list)),
-        Err(fault) => Err(fault),
-    }
-}
-
-// `v`: a pattern and a list.
-fn read_lacking(rest: &[u8]) -> Result<Command<'_>, Fault>
-    ensures { seen command_view result ≡ choosing lacking_lines rest.now }
-{
-    match read_sought(rest) {
-        Ok((sought, list)) => Ok(Command::Global(Chooser::Lacking(sought), list)),
-        Err(fault) => Err(fault),
-    }
+    let (sought, behind) = read_sought(rest)?;
+    let (replacement, flags) = cut_part(sought.delimiter, behind)?;
+    let (all, print) = read_flags(flags)?;
+    Ok(Command::Act(Action::Substitute(Substitution {
+        sought,
+        replacement,
+        all,
+        print,
+    })))
 }

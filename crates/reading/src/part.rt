@@ -16,7 +16,7 @@ pub(crate) fn cut_part(delimiter: u8, bytes: &[u8]) -> Result<(&[u8], &[u8]), Fa
     let mut taken = false;
     for (at, byte) in bytes.iter().enumerate() {
         if *byte == delimiter && !taken {
-            return Ok((&bytes[0..at], &bytes[at + 1..]));
+            return Ok((&bytes[..at], &bytes[at + 1..]));
         }
         taken = *byte == b'\\' && !taken;
     }
@@ -24,30 +24,27 @@ pub(crate) fn cut_part(delimiter: u8, bytes: &[u8]) -> Result<(&[u8], &[u8]), Fa
 }
 
 // A part that is a pattern.
+#[tactic(auto, unfolding(crate::specs::Parts::pattern_at))]
 pub(crate) fn cut_pattern(delimiter: u8, bytes: &[u8]) -> Result<(&[u8], &[u8]), Fault>
     ensures value { part_seen (λ x. x.now) result ≡ pattern_at delimiter bytes.now }
     ensures shorter { IfOk result (λ x. length x.1.now < length bytes.now) }
 {
-    let (part, rest) = match cut_part(delimiter, bytes) {
-        Ok(cut) => cut,
-        Err(fault) => return Err(fault),
-    };
+    let (part, rest) = cut_part(delimiter, bytes)?;
     if !is_pattern(delimiter, part) {
         return Err(Fault::BadPattern);
     }
     Ok((part, rest))
 }
 
+#[tactic(auto, unfolding(crate::specs::Parts::is_pattern))]
 fn is_pattern(delimiter: u8, part: &[u8]) -> bool
     ensures { result ≡ is_pattern delimiter part.now }
 {
-    match Pattern::read(delimiter, part) {
-        Ok(_) => true,
-        Err(_) => false,
-    }
+    Pattern::read(delimiter, part).is_ok()
 }
 
 // A delimiter, and the pattern between it and the next.
+#[tactic(auto, unfolding(crate::specs::Parts::sought_at))]
 pub(crate) fn read_sought(bytes: &[u8]) -> Result<(Sought<'_>, &[u8]), Fault>
     ensures value { part_seen sought_view result ≡ sought_at bytes.now }
     ensures shorter { IfOk result (λ x. length x.1.now < length bytes.now) }
@@ -58,16 +55,12 @@ pub(crate) fn read_sought(bytes: &[u8]) -> Result<(Sought<'_>, &[u8]), Fault>
     if !is_delimiter(*delimiter) {
         return Err(Fault::BadPattern);
     }
-    match cut_pattern(*delimiter, behind) {
-        Ok((part, rest)) => Ok((
-            Sought {
-                delimiter: *delimiter,
-                part,
-            },
-            rest,
-        )),
-        Err(fault) => Err(fault),
-    }
+    let (part, rest) = cut_pattern(*delimiter, behind)?;
+    let sought = Sought {
+        delimiter: *delimiter,
+        part,
+    };
+    Ok((sought, rest))
 }
 
 // Any byte delimits but a space, a `\` and a line break.

@@ -1,41 +1,36 @@
-use Rattle.std.proofs.Common.{◌≡◌, ◌+◌, ◌*◌, ◌<◌, true, length, is_some, sym, ap, ◌∙◌, inr, ⊎_elim, arith, rules}
-use Rattle.std.proofs.lemmas.Bool.{both_ways}
+use Rattle.std.proofs.Common.{◌≡◌, ◌+◌, ◌*◌, ◌<◌, length, Some, None, ◌∙◌, arith, rules}
 use Rattle.reading.specs.Addresses.{digit_at}
-use Rattle.reading.proofs.Digits.{digit_shorter, digits_on, number_none, number-over, number_is}
+use Rattle.reading.proofs.Digits.{digits_first, digits_on, number_none, number-over, number_is}
 use Rattle.reading.proofs.number.read_number.Goals as goal
 
-pub returns-then-is_none : goal.returns-then-is_none
-returns-then-is_none c =
-    record { value = number_none c.args.bytes.now (search rules); within = tt }
+pub returns-in_err-first-clause-value : goal.returns-in_err-first-clause-value
+returns-in_err-first-clause-value c =
+    let none : None ≡ digit_at c.args.bytes.now = search rules in
+    let e = number_none c.args.bytes.now none in
+    search rules
 
-pub returns-then-value-gt-NUMBER_MAX : goal.returns-then-value-gt-NUMBER_MAX
-returns-then-value-gt-NUMBER_MAX c =
+pub loop-digit-init : goal.loop-digit-init
+loop-digit-init c =
+    let some : Some (c.in_ok-first.first, c.in_ok-first.rest.now) ≡ digit_at c.args.bytes.now = search rules in
+    let fits : c.in_ok-first.first < 256 = search rules in
+    let shorter : length c.in_ok-first.rest.now < length c.args.bytes.now = search rules in
+    (omega arith, digits_first c.args.bytes.now c.in_ok-first.first c.in_ok-first.rest.now some, shorter)
+
+pub returns-then-value-gt-NUMBER_MAX-clause-value :
+    goal.returns-then-value-gt-NUMBER_MAX-clause-value
+returns-then-value-gt-NUMBER_MAX-clause-value c =
     let l = c.loop-digit in
     let s = c.in-Some in
-    record {
-      value = number-over c.args.bytes.now (l.value * 10 + s.digit) s.behind.now (digits_on l.value l.rest.now s.digit s.behind.now s.ensures ∙ l.invariant.1) (omega arith);
-      within = tt;
-    }
-
-pub loop-digit-smaller : goal.loop-digit-smaller
-loop-digit-smaller c = digit_shorter c.loop-digit.rest.now c.in-Some.digit c.in-Some.behind.now c.in-Some.ensures
+    number-over c.args.bytes.now (l.value * 10 + s.digit) s.behind.now (digits_on l.value l.rest.now s.digit s.behind.now s.ensures.value ∙ l.invariant.1) (omega arith)
 
 pub loop-digit-preserved : goal.loop-digit-preserved
 loop-digit-preserved c =
     let l = c.loop-digit in
     let s = c.in-Some in
-    let d = digit_shorter l.rest.now s.digit s.behind.now s.ensures in
-    let shorter : length s.behind.now < length c.args.bytes.now =
-    ⊎_elim (λ e. omega (arith, d, ap length e)) (λ h. omega (arith, d, h)) l.invariant.2 in
-    (omega arith, digits_on l.value l.rest.now s.digit s.behind.now s.ensures ∙ l.invariant.1, inr shorter)
+    (omega arith, digits_on l.value l.rest.now s.digit s.behind.now s.ensures.value ∙ l.invariant.1, omega (arith, s.ensures.shorter))
 
-pub returns : goal.returns
-returns c =
+pub returns-clause-value : goal.returns-clause-value
+returns-clause-value c =
     let l = c.loop-digit in
-    let bs = c.args.bytes.now in
-    let some : is_some (digit_at bs) ≡ true = search rules in
-    let none = c.in_default.ensures in
-    record {
-      value = number_is bs l.value l.rest.now l.invariant.1 some none l.invariant.0;
-      within = (l.invariant.0, ⊎_elim (λ e. absurd (both_ways (is_some (digit_at bs)) (ap is_some (sym (none ∙ ap digit_at e))) some)) (λ h. h) l.invariant.2);
-    }
+    let some : Some (c.in_ok-first.first, c.in_ok-first.rest.now) ≡ digit_at c.args.bytes.now = search rules in
+    number_is c.args.bytes.now l.value l.rest.now l.invariant.1 c.in_ok-first.first c.in_ok-first.rest.now some c.in_default.ensures.value l.invariant.0

@@ -1,5 +1,4 @@
 use Rattle.std.proofs.Common.{◌≡◌, true, false, not, ◌&&◌, eqb, get_or, sym, ap, ◌∙◌, arith}
-use native.Mathlib.Nat.{sub-zero}
 use Rattle.std.proofs.lemmas.List.{take_rest, length-drop}
 use Rattle.std.proofs.lemmas.Bool.{eq-eqb, ne_eqb, and_from, and_left, and_right, not_from_true, not_from_false}
 use Rattle.reading.proofs.Cut.{none_in_front, cut-ends, cut_on, cut_never}
@@ -19,7 +18,7 @@ returns-then-not-taken c =
     let ends : (eqb b c.args.delimiter && not taken) ≡ true =
     and_from (eqb b c.args.delimiter) (not taken) (eq-eqb b c.args.delimiter c.if-byte-delimiter.true) (not_from_false taken c.if-not-taken.true) in
     record {
-      value = simp (take_rest, sub-zero) (cut-ends c.args.delimiter bs taken at c.loop-at.invariant c.loop-at-test.true ends);
+      value = simp (take_rest) (cut-ends c.args.delimiter bs taken at c.loop-at.invariant c.loop-at-test.true ends);
       shorter = simp (take_rest, length-drop) (omega arith);
     }
 

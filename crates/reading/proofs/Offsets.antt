@@ -1,19 +1,9 @@
--- What an address begins with, where it is none of the special bytes; and its offsets, one at a time.
-use Rattle.std.proofs.Common.{◌≡◌, ℕ, zero, suc, ◌-◌, ◌≤◌, Bool, true, false, eqb, [], ◌∷◌, length, Ok, Err, sym, refl, ap, ◌∙◌, arith}
-use Rattle.std.proofs.lemmas.Bool.{ne_eqb, or_from}
+-- The offsets of an address, one at a time.
+use Rattle.std.proofs.Common.{◌≡◌, ℕ, zero, suc, ◌-◌, ◌≤◌, Bool, true, false, [], ◌∷◌, length, Ok, Err, sym, refl, ap, ◌∙◌, arith}
 use Rattle.command.specs.declared.fault.Fault.{Fault}
-use Rattle.command.specs.Said.{Bytes, at_number, Address}
+use Rattle.command.specs.Said.{Bytes, Address}
 use Rattle.reading.specs.Read.{Part, ◌>>=◌, begins}
-use Rattle.reading.specs.Addresses.{number_at, is_sign, moved, base_at, offsets_at}
-
-abbrev Not : ℕ → ℕ → Type 0
-Not b c = b ≡ c → ⊥
-
-pub base-number : (b : ℕ) (bs : Bytes) → Not b 46 → Not b 36 → Not b 39 → Not b 47 → Not b 43 → Not b 45
-    → base_at (b ∷ bs) ≡ (number_at (b ∷ bs) >>= λ r. Ok (at_number r.0, r.1))
-unfolding base_at
-base-number b bs h i j k l m =
-    cc (ne_eqb b 46 h, ne_eqb b 36 i, ne_eqb b 39 j, ne_eqb b 47 k, or_from (eqb b 43) (eqb b 45) (ne_eqb b 43 l) (ne_eqb b 45 m))
+use Rattle.reading.specs.Addresses.{number_at, is_sign, moved, offsets_at}
 
 -- behind a sign
 abbrev step : ℕ → Address → ℕ → Bytes → Bool → Part Address
