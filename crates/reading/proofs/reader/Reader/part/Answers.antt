@@ -1,30 +1,27 @@
 use Rattle.std.proofs.Common.{◌≡◌, true, false, not, ◌&&◌, eqb, get_or, sym, ap, ◌∙◌, arith}
-use Rattle.std.proofs.lemmas.List.{take_rest, length-drop}
+use Rattle.std.proofs.lemmas.List.{take_rest}
 use Rattle.std.proofs.lemmas.Bool.{eq-eqb, ne_eqb, and_from, and_left, and_right, not_from_true, not_from_false}
 use Rattle.reading.proofs.Cut.{none_in_front, cut-ends, cut_on, cut_never}
 use Rattle.reading.specs.Parts.{cut_at}
-use Rattle.reading.proofs.part.cut_part.Goals as goal
-use Rattle.reading.proofs.part.cut_part.Goals.{then-byte-eq92, else-byte-eq92, else-byte-delimiter-via-then-byte-delimiter+else-not-taken, else-byte-delimiter-via-else-byte-delimiter}
+use Rattle.reading.proofs.reader.Reader.part.Goals as goal
+use Rattle.reading.proofs.reader.Reader.part.Goals.{then-byte-eq92, else-byte-eq92, else-byte-delimiter-via-then-byte-delimiter+else-not-taken, else-byte-delimiter-via-else-byte-delimiter}
 
 pub loop-at-init : goal.loop-at-init
-loop-at-init c = none_in_front (cut_at c.args.delimiter false c.args.bytes.now)
+loop-at-init c = none_in_front (cut_at c.args.delimiter false c.args.self.now.rest.now)
 
 pub returns-then-not-taken : goal.returns-then-not-taken
 returns-then-not-taken c =
-    let bs = c.args.bytes.now in
+    let bs = c.args.self.now.rest.now in
     let at = c.loop-at.at in
     let taken = c.loop-at.taken in
     let b = get_or bs at 0 in
     let ends : (eqb b c.args.delimiter && not taken) ≡ true =
     and_from (eqb b c.args.delimiter) (not taken) (eq-eqb b c.args.delimiter c.if-byte-delimiter.true) (not_from_false taken c.if-not-taken.true) in
-    record {
-      value = simp (take_rest) (cut-ends c.args.delimiter bs taken at c.loop-at.invariant c.loop-at-test.true ends);
-      shorter = simp (take_rest, length-drop) (omega arith);
-    }
+    simp take_rest (cut-ends c.args.delimiter bs taken at c.loop-at.invariant c.loop-at-test.true ends)
 
 pub loop-at-preserved : goal.loop-at-preserved
 loop-at-preserved c =
-    let bs = c.args.bytes.now in
+    let bs = c.args.self.now.rest.now in
     let at = c.loop-at.at in
     let taken = c.loop-at.taken in
     let b = get_or bs at 0 in
@@ -42,4 +39,4 @@ loop-at-preserved c =
 
 pub returns : goal.returns
 returns c =
-    record { value = cut_never c.args.delimiter c.args.bytes.now c.loop-at.taken c.loop-at.at c.loop-at.invariant (omega arith); shorter = tt }
+    cut_never c.args.delimiter c.args.self.now.rest.now c.loop-at.taken c.loop-at.at c.loop-at.invariant (omega arith)

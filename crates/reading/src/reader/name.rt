@@ -4,19 +4,22 @@ ghost use Rattle.command.specs.View.{name_view};
 ghost use Rattle.reading.specs.Names.{behind_spaces, name_of, name_at};
 ghost use Rattle.reading.specs.Views.{seen};
 
+use super::Reader;
 use command::fault::Fault;
 use command::said::FileName;
 use shelf::name::is_name;
 
-// The name, parted from the letter by a space at least, or the remembered one.
-#[tactic(auto, unfolding(crate::specs::Names::name_at))]
-pub(crate) fn read_name(bytes: &[u8], has_name: bool) -> Result<FileName<'_>, Fault>
-    ensures { seen name_view result ≡ name_at has_name bytes.now }
-{
-    match bytes {
-        [] => name_or_remembered(bytes, has_name),
-        [b' ', rest @ ..] => name_or_remembered(skip_spaces(rest), has_name),
-        _ => Err(Fault::BadCommand),
+impl<'a> Reader<'a> {
+    // The name, parted from the letter by a space at least, or the remembered one.
+    #[tactic(auto, unfolding(crate::specs::Names::name_at))]
+    pub(super) fn name(&self, has_name: bool) -> Result<FileName<'a>, Fault>
+        ensures { seen name_view result ≡ name_at has_name self.now.rest.now }
+    {
+        match self.rest {
+            [] => name_or_remembered(self.rest, has_name),
+            [b' ', behind @ ..] => name_or_remembered(skip_spaces(behind), has_name),
+            _ => Err(Fault::BadCommand),
+        }
     }
 }
 

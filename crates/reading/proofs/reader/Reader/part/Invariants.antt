@@ -1,7 +1,7 @@
 use Rattle.std.proofs.Common.{◌≡◌, false, take, drop}
 use Rattle.reading.specs.Parts.{cut_at}
 use Rattle.reading.proofs.Cut.{in_front}
-use Rattle.reading.proofs.part.cut_part.Given as goal
+use Rattle.reading.proofs.reader.Reader.part.Given as goal
 
 -- the bytes passed belong to the part, and what is left is cut on
 abbrev pub invariant-loop-at : goal.invariant-loop-at
