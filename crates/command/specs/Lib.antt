@@ -1,4 +1,5 @@
 pub mod Numbers
+pub mod Shelves
 pub mod Marks
 pub mod Said
 pub mod Replacements

@@ -1,6 +1,9 @@
 // Why a given line is refused.
 ghost use Rattle.std.specs.Prelude.{◌≡◌};
 ghost use Rattle.command.specs.Numbers.{number_of};
+ghost use Rattle.command.specs.Shelves.{shelf_fault};
+
+use shelf::fault::ShelfFault;
 
 // A refusal of a given line, by its number.
 #[derive(Clone, Copy, PartialEq, Eq, Debug)]
@@ -44,5 +47,19 @@ impl Fault {
         ensures { result ≡ number_of self }
     {
         self as u8
+    }
+}
+
+// The fault of a line that a shelf refused.
+impl From<ShelfFault> for Fault {
+    ghost from_gives = { λ refusal fault. fault ≡ shelf_fault refusal };
+
+    fn from(refusal: ShelfFault) -> Fault {
+        match refusal {
+            ShelfFault::BadName => Fault::BadName,
+            ShelfFault::Full => Fault::ShelfFull,
+            ShelfFault::Protected => Fault::ProtectedName,
+            ShelfFault::NoFile => Fault::FileNotFound,
+        }
     }
 }

@@ -32,12 +32,6 @@ pub fn first_command(list: &[u8]) -> (&[u8], Option<&[u8]>)
 fn first_cut(list: &[u8]) -> Option<usize>
     ensures { MatchOption result (commands_in list.now ≡ list.now ∷ []) (λ at. (at + 2 ≤ length list.now) × (commands_in list.now ≡ take at list.now ∷ commands_in (drop 2 (drop at list.now)))) }
 {
-    let mut at = 0;
-    while at + 1 < list.len() {
-        if list[at] == b'\\' && list[at + 1] == b'\n' {
-            return Some(at);
-        }
-        at += 1;
-    }
-    None
+    list.windows(CUT)
+        .position(|pair| matches!(pair, [b'\\', b'\n']))
 }

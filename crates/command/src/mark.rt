@@ -7,13 +7,13 @@ ghost use Rattle.command.specs.Marks.{mark_of, bit_of};
 const MARKS: u8 = 26;
 
 // A mark by its letter.
-#[derive(Clone, Copy)]
+#[derive(Clone, Copy, PartialEq, Eq, Debug)]
 pub struct Mark {
     letter: u8,
 }
 
 impl Mark {
-    // The mark that a byte names. Nothing but `a` to `z` names one.
+    // The mark that a byte names. Nothing but `a` to `z` names one, and as that is the one cause, no error has a name to give.
     pub fn named(byte: u8) -> Option<Mark>
         ensures { option_map (λ m. m.letter) result ≡ mark_of byte }
     {

@@ -3,7 +3,7 @@ ghost use Rattle.std.specs.Prelude.{◌≡◌, ◌∷◌};
 ghost use Rattle.command.specs.Replacements.{plain_bit, escaped_bit, bits_of};
 ghost use Rattle.command.specs.View.{bit_view, bits_behind};
 
-#[derive(Clone, Copy)]
+#[derive(Clone, Copy, PartialEq, Eq, Debug)]
 pub enum Bit {
     // The matched run.
     TheMatch,
@@ -12,16 +12,16 @@ pub enum Bit {
 }
 
 // The first bit of a replacement, and what is left of it.
+#[tactic(auto, unfolding(crate::specs::Replacements::bits_of))]
 pub fn next_bit(replacement: &[u8]) -> Option<(Bit, &[u8])>
     ensures { bits_behind result ≡ bits_of replacement.now }
 {
-    let Some((byte, rest)) = replacement.split_first() else {
-        return None;
-    };
+    let (byte, rest) = replacement.split_first()?;
     Some(bit_at(*byte, rest))
 }
 
 // The bit that begins with a byte. A `\` takes the byte behind it along.
+#[tactic(auto, unfolding(crate::specs::Replacements::bits_of))]
 fn bit_at(byte: u8, rest: &[u8]) -> (Bit, &[u8])
     ensures { bit_view result.0 ∷ bits_of result.1.now ≡ bits_of (byte ∷ rest.now) }
 {

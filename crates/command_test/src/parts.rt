@@ -56,6 +56,7 @@ fn reads_replacements(rt: HostRuntime) -> Result<(), Fail> {
         let (replacement, wanted) = *row;
         let mut text = Vec::new(rt.alloc());
         let mut rest = replacement;
+        // A count of turns and no `while let`: what `next_bit` promises says nothing of lengths, so no measure is seen to fall.
         for _ in 0..replacement.len() {
             let Some((bit, behind)) = next_bit(rest) else {
                 break;
@@ -79,6 +80,7 @@ fn cuts_lists(rt: HostRuntime) -> Result<(), Fail> {
         let (list, wanted) = *row;
         let mut text = Vec::new(rt.alloc());
         let mut left = Some(or_print(list));
+        // The same with `first_command`.
         for _ in 0..=list.len() {
             let Some(commands) = left else {
                 break;
@@ -97,15 +99,11 @@ fn cuts_lists(rt: HostRuntime) -> Result<(), Fail> {
 #[test]
 fn names_marks(rt: HostRuntime) -> Result<(), Fail> {
     for byte in 0..=255u8 {
-        let wanted = if byte >= b'a' && byte <= b'z' {
-            byte - b'a'
-        } else {
-            99
+        let wanted = match byte {
+            b'a'..=b'z' => Some(byte - b'a'),
+            _ => None,
         };
-        let found = match Mark::named(byte) {
-            Some(mark) => mark.bit(),
-            None => 99,
-        };
+        let found = Mark::named(byte).map(|mark| mark.bit());
         assert_eq!(rt; (byte, found), (byte, wanted));
     }
     Ok(())

@@ -36,16 +36,13 @@ static IN_LIST: [(&[u8], Fault); 18] = [
 
 fn refuses(rt: &impl Abort, lines: &[&[u8]], fault: Fault, setting: Setting) -> Result<(), Fail> {
     for (case, line) in lines.iter().enumerate() {
-        assert_eq!(rt; (case, fault_of(line, setting)), (case, fault.number()));
+        assert_eq!(rt; (case, fault_of(line, setting)), (case, Some(fault)));
     }
     Ok(())
 }
 
-fn fault_of(line: &[u8], setting: Setting) -> u8 {
-    match read_command(line, setting) {
-        Ok(_) => 0,
-        Err(fault) => fault.number(),
-    }
+fn fault_of(line: &[u8], setting: Setting) -> Option<Fault> {
+    read_command(line, setting).err()
 }
 
 // 20: a letter is wanted, and one only.
@@ -249,7 +246,7 @@ fn refuses_what_is_not_for_lists(rt: HostRuntime) -> Result<(), Fail> {
 fn refuses_in_lists_as_elsewhere(rt: HostRuntime) -> Result<(), Fail> {
     for (case, row) in IN_LIST.iter().enumerate() {
         let (line, fault) = *row;
-        assert_eq!(rt; (case, fault_of(line, listed())), (case, fault.number()));
+        assert_eq!(rt; (case, fault_of(line, listed())), (case, Some(fault)));
     }
     Ok(())
 }
@@ -263,14 +260,14 @@ fn refuses_bad_names_with_a_name(rt: HostRuntime) -> Result<(), Fail> {
 // 1,000 bytes are read, 1,001 are not.
 #[test]
 fn refuses_long_lines(rt: HostRuntime) -> Result<(), Fail> {
-    assert_eq!(rt; fault_of(&[b'0'; 1_000], plain()), 0);
+    assert_eq!(rt; fault_of(&[b'0'; 1_000], plain()), None);
     assert_eq!(rt;
         fault_of(&[b'0'; 1_001], plain()),
-        Fault::CommandTooLong.number()
+        Some(Fault::CommandTooLong)
     );
     assert_eq!(rt;
         fault_of(&[b'q'; 1_001], listed()),
-        Fault::CommandTooLong.number()
+        Some(Fault::CommandTooLong)
     );
     Ok(())
 }

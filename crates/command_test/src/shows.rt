@@ -1,11 +1,11 @@
-// What a line says, written out so that a table can hold it.
+// What a line says, written out so that a table can hold it. It is bytes, which need not be text, so no Display writes it.
 use command::mark::Mark;
 use command::said::{
     Action, Address, Addresses, Base, Chooser, Command, FileName, Said, Sought, Substitution,
 };
 use reading::line::read_command;
 use reading::setting::Setting;
-use std::alloc::{AllocGlobal, Global};
+use std::alloc::AllocGlobal;
 use std::process::Abort;
 use std::test::*;
 
@@ -21,31 +21,31 @@ pub(crate) fn shows(
             return Ok(());
         };
         let mut text = Vec::new(rt.alloc());
-        show_said(rt.alloc(), &mut text, said)?;
+        show_said(&mut text, said)?;
         assert_eq!(rt; (case, text.as_slice()), (case, wanted));
     }
     Ok(())
 }
 
-fn show_said(heap: Global, text: &mut Vec<u8>, said: Said<'_>) -> Result<(), Fail> {
+fn show_said(text: &mut Vec<u8>, said: Said<'_>) -> Result<(), Fail> {
     match said.addresses {
         Addresses::NoAddress => {}
-        Addresses::OneAddress(address) => show_address(heap, text, address)?,
+        Addresses::OneAddress(address) => show_address(text, address)?,
         Addresses::TwoAddresses(first, second) => {
-            show_address(heap, text, first)?;
+            show_address(text, first)?;
             text.push(b',')?;
-            show_address(heap, text, second)?;
+            show_address(text, second)?;
         }
     }
     text.push(b':')?;
-    show_command(heap, text, said.command)
+    show_command(text, said.command)
 }
 
-fn show_address(heap: Global, text: &mut Vec<u8>, address: Address<'_>) -> Result<(), Fail> {
+fn show_address(text: &mut Vec<u8>, address: Address<'_>) -> Result<(), Fail> {
     match address.base {
         Base::AtCurrent => text.push(b'.')?,
         Base::AtLast => text.push(b'$')?,
-        Base::AtNumber(number) => show_number(heap, text, number as u32)?,
+        Base::AtNumber(number) => show_number(text, number as u32)?,
         Base::AtMark(mark) => {
             text.push(b'\'')?;
             text.push(letter(mark))?;
@@ -58,11 +58,11 @@ fn show_address(heap: Global, text: &mut Vec<u8>, address: Address<'_>) -> Resul
     }
     if address.ahead > 0 {
         text.push(b'+')?;
-        show_number(heap, text, address.ahead)?;
+        show_number(text, address.ahead)?;
     }
     if address.back > 0 {
         text.push(b'-')?;
-        show_number(heap, text, address.back)?;
+        show_number(text, address.back)?;
     }
     Ok(())
 }
@@ -71,15 +71,15 @@ fn letter(mark: Mark) -> u8 {
     b'a' + mark.bit()
 }
 
-fn show_number(heap: Global, text: &mut Vec<u8>, number: u32) -> Result<(), Fail> {
-    let digits = format!(in heap; "{number}")?;
+fn show_number(text: &mut Vec<u8>, number: u32) -> Result<(), Fail> {
+    let digits = format!(in *text.allocator(); "{number}")?;
     text.extend_from_slice(digits.as_bytes())?;
     Ok(())
 }
 
-fn show_command(heap: Global, text: &mut Vec<u8>, command: Command<'_>) -> Result<(), Fail> {
+fn show_command(text: &mut Vec<u8>, command: Command<'_>) -> Result<(), Fail> {
     match command {
-        Command::Act(action) => show_action(heap, text, action)?,
+        Command::Act(action) => show_action(text, action)?,
         Command::AppendText => text.extend_from_slice(b"append")?,
         Command::EditFile(name) => show_name(text, b"edit", name)?,
         Command::QuitSession => text.extend_from_slice(b"quit")?,
@@ -100,7 +100,7 @@ fn show_command(heap: Global, text: &mut Vec<u8>, command: Command<'_>) -> Resul
     Ok(())
 }
 
-fn show_action(heap: Global, text: &mut Vec<u8>, action: Action<'_>) -> Result<(), Fail> {
+fn show_action(text: &mut Vec<u8>, action: Action<'_>) -> Result<(), Fail> {
     match action {
         Action::DeleteLines => text.extend_from_slice(b"delete")?,
         Action::MarkLine(mark) => {
@@ -109,7 +109,7 @@ fn show_action(heap: Global, text: &mut Vec<u8>, action: Action<'_>) -> Result<(
         }
         Action::MoveLines(destination) => {
             text.extend_from_slice(b"move ")?;
-            show_address(heap, text, destination)?;
+            show_address(text, destination)?;
         }
         Action::PrintLines => text.extend_from_slice(b"print")?,
         Action::PrintNext => text.extend_from_slice(b"next")?,

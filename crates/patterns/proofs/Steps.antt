@@ -1,56 +1,10 @@
 -- One step of each reader, by the byte that stands first.
-use Rattle.std.proofs.Common.{◌≡◌, ℕ, zero, suc, ◌+◌, ◌-◌, ◌<◌, ◌≤◌, Bool, true, false, cond, ◌⊎◌, List, [], ◌∷◌, ◌++◌, length, get_or, drop, Some, None, Ok, Err, Option, sym, refl, ap, ◌∙◌, inl, inr, arith}
-use Rattle.std.proofs.lemmas.List.{drop-drop, drop_more, drop_all, append_assoc, append-nil}
-use Rattle.std.proofs.lemmas.Bool.{eq-eqb, ne_eqb}
+use Rattle.std.proofs.Common.{◌≡◌, ℕ, zero, suc, ◌-◌, ◌<◌, Bool, true, false, List, [], ◌∷◌, ◌++◌, length, get_or, Some, None, Ok, Err, Option, sym, refl, ap, ◌∙◌, arith}
+use Rattle.std.proofs.lemmas.List.{append_assoc, append-nil}
+use Rattle.std.proofs.lemmas.Bool.{ne_eqb}
 use Rattle.patterns.specs.declared.fault.PatternFault.{PatternFault}
-use Rattle.patterns.specs.Sets.{Set, others}
 use Rattle.patterns.specs.Items.{Bytes, Item, Pattern}
-use Rattle.patterns.specs.Reading.{Read, ◌>>=◌, bad, inside_at, brackets_at, escaped_at, set_at, star_at, item_at, ending, items_at, body_at, pattern_of}
-
--- what is left behind one byte and `used` more
-pub behind_one : (bs : Bytes) (s : Set) (used : ℕ) (r : Read (Set × Bytes)) → Ok (s, drop used (drop 1 bs)) ≡ r → Ok (s, drop (1 + used) bs) ≡ r
-behind_one bs s used r e = ap (λ xs. Ok (s, xs)) (sym (drop-drop used 1 bs)) ∙ e
-
--- the complement
-pub brackets_caret : (bs : Bytes) → get_or bs 0 0 ≡ 94 → brackets_at bs ≡ (inside_at (drop 1 bs) >>= λ r. Ok (others r.0, r.1))
-brackets_caret [] e = absurd (omega (arith, e))
-brackets_caret (b ∷ bs) e =
-    ap (λ t. elim t as (λ _. Read (Set × Bytes)) [ true ↦ inside_at bs >>= λ r. Ok (others r.0, r.1) | false ↦ inside_at (b ∷ bs) ]) (eq-eqb b 94 e)
-
-pub brackets_others : (bs : Bytes) → get_or bs 0 0 ≡ 94 → (s : Set) (used : ℕ) → Ok (s, drop used (drop 1 bs)) ≡ inside_at (drop 1 bs)
-    → Ok (others s, drop (1 + used) bs) ≡ brackets_at bs
-brackets_others bs e s used h =
-    behind_one bs (others s) used (brackets_at bs) (ap (λ r. r >>= λ q. Ok (others q.0, q.1)) h ∙ sym (brackets_caret bs e))
-
--- an item that begins with `[`, and one that begins with `\`
-module _ (delimiter : ℕ) (first : Bool) where
-  pub set_brackets : (bs : Bytes) → get_or bs 0 0 ≡ 91 → set_at delimiter first bs ≡ brackets_at (drop 1 bs)
-  set_brackets [] e = absurd (omega (arith, e))
-  set_brackets (b ∷ bs) e = ap (λ c. set_at delimiter first (c ∷ bs)) e
-
-  pub set_escaped : (bs : Bytes) → get_or bs 0 0 ≡ 92 → set_at delimiter first bs ≡ escaped_at delimiter (drop 1 bs)
-  set_escaped [] e = absurd (omega (arith, e))
-  set_escaped (b ∷ bs) e = ap (λ c. set_at delimiter first (c ∷ bs)) e
-
--- the `*` behind a set
-abbrev starring : Set → Bool → Item
-starring s b = record { set = s; starred = b }
-
-pub star_there : (s : Set) (bs : Bytes) (used : ℕ) → used < length bs → get_or bs used 0 ≡ 42
-    → star_at s (drop used bs) ≡ (starring s true, drop (used + 1) bs)
-star_there s bs used h e =
-    ap (star_at s) (drop_more bs used 0 h)
-    ∙ ap (λ t. cond t (starring s true, drop (used + 1) bs) (starring s false, get_or bs used 0 ∷ drop (used + 1) bs)) (eq-eqb (get_or bs used 0) 42 e)
-
-pub star_none : (s : Set) (bs : Bytes) (used : ℕ) → (length bs ≤ used) ⊎ ((used < length bs) × (get_or bs used 0 ≡ 42 → ⊥))
-    → star_at s (drop used bs) ≡ (starring s false, drop used bs)
-star_none s bs used (inl h) =
-    let e = drop_all used bs h in ap (star_at s) e ∙ ap (λ xs. (starring s false, xs)) (sym e)
-star_none s bs used (inr h) =
-    let e = drop_more bs used 0 h.0 in
-    ap (star_at s) e
-    ∙ ap (λ t. cond t (starring s true, drop (used + 1) bs) (starring s false, get_or bs used 0 ∷ drop (used + 1) bs)) (ne_eqb (get_or bs used 0) 42 h.1)
-    ∙ ap (λ xs. (starring s false, xs)) (sym e)
+use Rattle.patterns.specs.Reading.{Read, ◌>>=◌, bad, item_at, ending, items_at, body_at, pattern_of}
 
 -- reading items on, behind those that were read
 abbrev pub ahead : List Item → Read (List Item × Bool) → Read (List Item × Bool)
@@ -98,18 +52,18 @@ module _ (front first : Bool) (delimiter n : ℕ) (xs : List Item) (bs part : By
   abbrev as_pattern : Read (List Item × Bool) → Read Pattern
   as_pattern r = r >>= λ q. Ok (record { front = front; items = q.0; back = q.1 })
 
-  pub items-done : (back : Bool) → Some back ≡ ending bs → Ok (record { front = front; items = xs; back = back }) ≡ body_at front delimiter part
-  items-done back e =
+  pub items_done : (back : Bool) → Some back ≡ ending bs → Ok (record { front = front; items = xs; back = back }) ≡ body_at front delimiter part
+  items_done back e =
       ap (λ ys. Ok (record { front = front; items = ys; back = back })) (sym (append-nil xs))
       ∙ ap (λ r. as_pattern (ahead xs r)) (sym (items_end delimiter first bs n back e))
       ∙ ap as_pattern left
 
-  pub items-over : n ≡ 0 → None ≡ ending bs → bad ≡ body_at front delimiter part
-  items-over z e =
+  pub items_over : n ≡ 0 → None ≡ ending bs → bad ≡ body_at front delimiter part
+  items_over z e =
       ap (λ r. as_pattern (ahead xs r)) (sym (ap (λ k. items_at k delimiter first bs) z ∙ items_full delimiter first bs e)) ∙ ap as_pattern left
 
-  pub items-bad : (f : PatternFault) → 0 < n → None ≡ ending bs → Err f ≡ item_at delimiter first bs → Err f ≡ body_at front delimiter part
-  items-bad f h e i =
+  pub items_bad : (f : PatternFault) → 0 < n → None ≡ ending bs → Err f ≡ item_at delimiter first bs → Err f ≡ body_at front delimiter part
+  items_bad f h e i =
       let m : n ≡ suc (n - 1) = omega arith in
       ap (λ r. as_pattern (ahead xs r)) (sym (ap (λ k. items_at k delimiter first bs) m ∙ items_refused delimiter first bs (n - 1) f e i)) ∙ ap as_pattern left
 
@@ -121,16 +75,6 @@ module _ (front first : Bool) (delimiter n : ℕ) (xs : List Item) (bs part : By
 
 -- a whole pattern
 module _ (delimiter : ℕ) where
-  pub pattern_none : (bs : Bytes) → length bs ≤ 0 → pattern_of delimiter bs ≡ bad
-  unfolding pattern_of
-  pattern_none [] h = refl
-  pattern_none (b ∷ bs) h = absurd (omega (arith, h))
-
-  pub pattern_caret : (bs : Bytes) → get_or bs 0 0 ≡ 94 → pattern_of delimiter bs ≡ body_at true delimiter (drop 1 bs)
-  unfolding pattern_of
-  pattern_caret [] e = absurd (omega (arith, e))
-  pattern_caret (b ∷ bs) e = ap (λ c. pattern_of delimiter (c ∷ bs)) e
-
   pub pattern_plain : (bs : Bytes) → 0 < length bs → (get_or bs 0 0 ≡ 94 → ⊥) → pattern_of delimiter bs ≡ body_at false delimiter bs
   unfolding pattern_of
   pattern_plain [] h n = absurd (omega (arith, h))

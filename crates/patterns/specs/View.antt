@@ -1,5 +1,5 @@
 -- What the code's sets, items and patterns mean.
-use Rattle.std.specs.Prelude.{map, take, Ok, Err, Result}
+use Rattle.std.specs.Prelude.{map, Ok, Err, Result}
 use Rattle.patterns.specs.declared.byte_set.ByteSet.{ByteSet}
 use Rattle.patterns.specs.declared.fault.PatternFault.{PatternFault}
 use Rattle.patterns.specs.declared.pattern.Item.{Item as ItemCode}
@@ -16,7 +16,7 @@ abbrev pub item_of : ItemCode → Item
 item_of i = record { set = members i.set; starred = i.starred }
 
 abbrev pub meaning : PatternCode → Pattern
-meaning p = record { front = p.front; items = map item_of (take p.count p.items); back = p.back }
+meaning p = record { front = p.front; items = map item_of p.items.items; back = p.back }
 
 -- An answer of `Pattern::read`, with the pattern's meaning.
 abbrev pub viewed : Result PatternCode PatternFault → Read Pattern

@@ -14,13 +14,17 @@ pub struct ByteSet {
     ghost full: { length words ≡ 4 },
 }
 
-impl ByteSet {
-    pub(crate) fn empty() -> ByteSet
-        ensures { table_of result.words ≡ no_bytes }
-    {
+// No byte.
+impl Default for ByteSet {
+    ghost is_default = { λ set. table_of set.words ≡ no_bytes };
+
+    fn default() -> ByteSet {
         ByteSet { words: [0; WORDS] }
     }
+}
 
+impl ByteSet {
+    #[tactic(auto, unfolding(crate::specs::Sets::those))]
     pub(crate) fn every() -> ByteSet
         ensures { table_of result.words ≡ every }
     {
@@ -29,14 +33,16 @@ impl ByteSet {
         }
     }
 
+    #[tactic(auto, using(crate::proofs::Tables::span_just))]
     pub(crate) fn just(byte: u8) -> ByteSet
         ensures { table_of result.words ≡ just byte }
     {
-        let mut set = ByteSet::empty();
+        let mut set = ByteSet::default();
         set.insert(byte);
         set
     }
 
+    #[tactic(auto, using(crate::proofs::Words::has_bit))]
     pub fn has(&self, byte: u8) -> bool
         ensures { result ≡ has (table_of self.now.words) byte }
     {
@@ -44,15 +50,16 @@ impl ByteSet {
         word >> (byte % WORD_BITS) & 1 == 1
     }
 
+    #[tactic(auto, using(crate::proofs::Words::insert_table))]
     pub(crate) fn insert(&mut self, byte: u8)
         ensures { table_of self.new.words ≡ with_span byte byte (table_of self.old.words) }
     {
         let place = (byte / WORD_BITS) as usize;
-        let word = self.words[place];
-        self.words[place] = word | 1 << (byte % WORD_BITS);
+        self.words[place] |= 1 << (byte % WORD_BITS);
     }
 
     // Adds the bytes from `low` to `high`.
+    #[tactic(auto, using(crate::proofs::Tables::span_none, crate::proofs::Tables::span_more, crate::proofs::Tables::span_all))]
     pub(crate) fn insert_span(&mut self, low: u8, high: u8)
         requires { low ≤ high }
         ensures { table_of self.new.words ≡ with_span low high (table_of self.old.words) }
@@ -65,9 +72,8 @@ impl ByteSet {
     pub(crate) fn complement(&self) -> ByteSet
         ensures { table_of result.words ≡ others (table_of self.now.words) }
     {
-        let [a, b, c, d] = self.words;
         ByteSet {
-            words: [!a, !b, !c, !d],
+            words: self.words.map(|word| !word),
         }
     }
 }

@@ -1,6 +1,5 @@
--- What the readers answer: what is read, and the bytes that the rest of the line refers to.
+-- What the readers answer, and the bytes that they leave.
 use Rattle.std.specs.Prelude.{Bool, Some, None, Ok, Err, Option, Result}
-use Rattle.std.specs.Borrow.{Bor}
 use Rattle.std.specs.Option.{option_map}
 use Rattle.command.specs.declared.fault.Fault.{Fault}
 use Rattle.command.specs.declared.fault.Fault.TheVariants.{BadCommand}
@@ -14,12 +13,14 @@ abbrev pub seen : {X A : Type 0} → (X → A) → Result X Fault → Read A
 seen view (Ok x) = Ok (view x)
 seen view (Err f) = Err f
 
-abbrev pub part_seen : {X A : Type 0} → (X → A) → Result (X × Bor Bytes) Fault → Part A
-part_seen view (Ok r) = Ok (view r.0, r.1.now)
-part_seen view (Err f) = Err f
+-- The same with the bytes that the reader leaves.
+abbrev pub part_seen : {X A : Type 0} → (X → A) → Result X Fault → Bytes → Part A
+part_seen view (Ok x) rest = Ok (view x, rest)
+part_seen view (Err f) rest = Err f
 
-abbrev pub front_seen : {X : Type 0} → Option (X × Bor Bytes) → Option (X × Bytes)
-front_seen r = option_map (λ x. (x.0, x.1.now)) r
+abbrev pub front_seen : {X : Type 0} → Option X → Bytes → Option (X × Bytes)
+front_seen (Some x) rest = Some (x, rest)
+front_seen None rest = None
 
 abbrev pub setting_view : SettingCode → Setting
 setting_view s = record { in_list = s.in_list; has_name = s.has_name }

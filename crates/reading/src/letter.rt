@@ -11,6 +11,7 @@ pub(crate) struct Rights {
 }
 
 // What a command may, by its letter.
+#[tactic(auto, unfolding(crate::specs::Commands::rule_for))]
 pub(crate) fn rights_of(letter: u8) -> Option<Rights>
     ensures { rights_seen result ≡ rights_of (rule_for letter) }
 {

@@ -22,6 +22,6 @@ impl Pattern {
     pub fn items(&self) -> &[Item]
         ensures { map item_of result.now ≡ (meaning self.now).items }
     {
-        &self.items[0..self.count]
+        self.items.as_slice()
     }
 }

@@ -1,0 +1,47 @@
+use Rattle.std.proofs.Common.{◌-◌, Ok, ap, ◌∙◌, length, arith}
+use Rattle.std.proofs.lemmas.Result.{err_from_is_err_and}
+use Rattle.command.specs.View.{address_view}
+use Rattle.reading.proofs.Offsets.{offsets-over, offsets-refused, offsets_ahead, offsets_back}
+use Rattle.reading.proofs.reader.Reader.offsets.Goals as goal
+
+pub returns-in_err-number : goal.returns-in_err-number
+returns-in_err-number c =
+    let l = c.loop-sign in
+    let p = err_from_is_err_and c.from_residual.result c.from_residual.ensures.1 in
+    rw (p.1, p.2)
+    (offsets-refused l.invariant.1.0 (address_view l.address) l.self.rest.now l.invariant.1.1 c.in-Some.sign c.sign.new.self.rest.now c.in-Some.ensures c.in_err-number.field-0.0 c.in_err-number.ensures.value
+    ∙ l.invariant.1.2)
+
+pub loop-sign-preserved-then-sign-eq43 : goal.loop-sign-preserved-then-sign-eq43
+loop-sign-preserved-then-sign-eq43 c =
+    let l = c.loop-sign in
+    let r = c.in_ok-number.ensures in
+    let s = c.in-Some.ensures in (
+      omega (arith, ap length s.0, r.shorter),
+      (
+        l.invariant.1.0 - 1,
+        omega (arith, ap length s.0, r.shorter, l.invariant.1.1),
+        offsets_ahead l.invariant.1.0 (address_view l.address) l.self.rest.now l.invariant.1.1 c.in-Some.sign c.sign.new.self.rest.now s c.in_ok-number.number c.number.new.self.rest.now r.value
+            c.if-sign-eq43.true ∙ l.invariant.1.2,
+      ),
+    )
+
+pub loop-sign-preserved : goal.loop-sign-preserved
+loop-sign-preserved c =
+    let l = c.loop-sign in
+    let r = c.in_ok-number.ensures in
+    let s = c.in-Some.ensures in (
+      omega (arith, ap length s.0, r.shorter),
+      (
+        l.invariant.1.0 - 1,
+        omega (arith, ap length s.0, r.shorter, l.invariant.1.1),
+        offsets_back l.invariant.1.0 (address_view l.address) l.self.rest.now l.invariant.1.1 c.in-Some.sign c.sign.new.self.rest.now s c.in_ok-number.number c.number.new.self.rest.now r.value
+            c.if-sign-eq43.false ∙ l.invariant.1.2,
+      ),
+    )
+
+pub returns : goal.returns
+returns c =
+    let l = c.loop-sign in
+    let a = address_view l.address in
+    ap (λ bs. Ok (a, bs)) c.in_default.ensures.1 ∙ offsets-over l.invariant.1.0 a l.self.rest.now c.in_default.ensures.0 ∙ l.invariant.1.2
