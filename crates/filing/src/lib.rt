@@ -2,6 +2,5 @@
 #![tactic(auto)]
 
 mod count;
-pub mod fault;
 pub mod reading_files;
 pub mod writing;

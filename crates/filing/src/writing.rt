@@ -6,7 +6,6 @@ ghost use Rattle.ranges.specs.Spans.{RangesOver};
 ghost use Rattle.rules.specs.Files.{filed};
 ghost use Rattle.filing.specs.Contents.{contents_from, answer_of, shelf_after};
 
-use crate::fault::shelf_fault;
 use command::fault::Fault;
 use lines::line::{LINE_BREAK, LINE_MAX};
 use lines::line_of::LineOf;
@@ -40,13 +39,9 @@ pub fn write_file<T: LineStore, S: Shelf>(
     ensures value { result ≡ answer_of (filed (S.Shelf.meaning shelf.old) name.now (contents_from range (T.LineStore.meaning text.now))) }
     ensures shelf { S.Shelf.meaning shelf.new ≡ shelf_after (S.Shelf.meaning shelf.old) (filed (S.Shelf.meaning shelf.old) name.now (contents_from range (T.LineStore.meaning text.now))) }
 {
-    match shelf.clear(name, size) {
-        Ok(file) => {
-            add_range(text, range, shelf, file);
-            Ok(())
-        }
-        Err(fault) => Err(shelf_fault(fault)),
-    }
+    let file = shelf.clear(name, size)?;
+    add_range(text, range, shelf, file);
+    Ok(())
 }
 
 // Adds the lines of a range, if there is one, to a file that has room for them.

@@ -1,18 +1,9 @@
 -- Files: what the shelf answers to a whole file written, and the lines of a file read.
 use Rattle.std.specs.Prelude.{ℕ, true, false, List, [], ◌∷◌, length, Some, None, Ok, Err, Option, Result, ◌==◌}
 use Rattle.shelf.specs.declared.fault.ShelfFault.{ShelfFault}
-use Rattle.shelf.specs.declared.fault.ShelfFault.TheVariants as says
 use Rattle.shelf.specs.Shelf.{Shelf, contents_at, lookup_answer, clear_answer, clear_after, add_after}
-use Rattle.command.specs.declared.fault.Fault.{Fault}
-use Rattle.command.specs.declared.fault.Fault.TheVariants.{BadName, ShelfFull, ProtectedName, FileNotFound}
+use Rattle.command.specs.Shelves.{shelf_fault}
 use Rattle.reading.specs.Read.{Read}
-
--- a shelf's refusal, as a line's fault
-abbrev pub shelf_fault : ShelfFault → Fault
-shelf_fault says.BadName = BadName
-shelf_fault says.Full = ShelfFull
-shelf_fault says.Protected = ProtectedName
-shelf_fault says.NoFile = FileNotFound
 
 -- the name cleared for the new contents, and these put in
 abbrev pub filed_by : Shelf → List ℕ → List ℕ → Result ℕ ShelfFault → Read Shelf

@@ -10,6 +10,6 @@ add_range-requires g c =
     let contents = contents_from c.args.range (g.T.LineStore.meaning c.args.text.now) in
     record {
       count = c.requires.count;
-      room = cleared_takes was is c.args.name.now c.args.size c.in-Ok.file contents
-          (sym c.in-Ok.is ∙ c.clear.ensures.value) c.clear.ensures.after c.requires.size;
+      room = cleared_takes was is c.args.name.now c.args.size c.in_ok-file.file contents
+          (sym c.in_ok-file.was ∙ c.clear.ensures.value) c.clear.ensures.after c.requires.size;
     }
