@@ -1,7 +1,7 @@
 -- Lines put and taken away, as an editor sees them.
 use Rattle.std.proofs.Common.{◌≡◌, ℕ, ◌+◌, ◌-◌, ◌<◌, ◌≤◌, true, false, not, leb, List, [], ◌∷◌, ◌++◌, map, length, get_or, take, drop, Some, Option, sym, refl, ap, ◌∙◌, arith}
 use Rattle.std.proofs.lemmas.List.{append_assoc, length-append, length-map, length-take-le, length-drop, map-append, take-map, drop-map, take_at, drop_at, take-append-drop, get_or-map, drop_more}
-use Rattle.std.proofs.lemmas.Bool.{and_parts, leb-true}
+use Rattle.std.proofs.lemmas.Bool.{not-true, and_parts, leb-true}
 use Rattle.lines.specs.Line as stored
 use Rattle.lines.specs.Store.{Store, line_at, inserted}
 use Rattle.command.specs.Said.{Substitution}
@@ -21,9 +21,27 @@ seen-inserted ls n t = rw (map-append seen (take n ls), take-map seen n ls, drop
 pub seen_removed : (ls : List stored.Line) (n : ℕ) → map seen (take (n - 1) ls ++ drop n ls) ≡ take (n - 1) (map seen ls) ++ drop n (map seen ls)
 seen_removed ls n = rw (map-append seen (take (n - 1) ls), take-map seen (n - 1) ls, drop-map seen n ls)
 
+-- lines without one of them, in front of it and behind it
+pub front_gone : {L : Type 0} (ls : List L) (n : ℕ) → n < length ls → take n (take (n + 1 - 1) ls ++ drop (n + 1) ls) ≡ take n ls
+front_gone ls n h =
+    let back : n + 1 - 1 ≡ n = omega arith in
+    ap (λ (k : ℕ). take n (take k ls ++ drop (n + 1) ls)) back ∙ take_at (take n ls) (drop (n + 1) ls) n (length-take-le n ls (omega arith))
+
+pub rest_gone : {L : Type 0} (ls : List L) (n : ℕ) → n < length ls → drop n (take (n + 1 - 1) ls ++ drop (n + 1) ls) ≡ drop (n + 1) ls
+rest_gone ls n h =
+    let back : n + 1 - 1 ≡ n = omega arith in
+    ap (λ (k : ℕ). drop n (take k ls ++ drop (n + 1) ls)) back ∙ drop_at (take n ls) (drop (n + 1) ls) n (length-take-le n ls (omega arith))
+
+-- what it is that a line fits
+pub fitting_short : (w : List ℕ) → stored.fitting w ≡ true → length w ≤ 255
+fitting_short w h = leb-true (length w) 255 (and_parts (leb (length w) 255) (not (stored.holds_break w)) h).0
+
+pub fitting_unbroken : (w : List ℕ) → stored.fitting w ≡ true → stored.holds_break w ≡ false
+fitting_unbroken w h = not-true (stored.holds_break w) (and_parts (leb (length w) 255) (not (stored.holds_break w)) h).1
+
 -- a line that fits is spelled out as a whole
 pub spelled_out : (w : List ℕ) → stored.fitting w ≡ true → line_of w ≡ Some (record { items = w })
-spelled_out w h = line_short w (leb-true (length w) 255 (and_parts (leb (length w) 255) (not (stored.holds_break w)) h).0)
+spelled_out w h = line_short w (fitting_short w h)
 
 -- lines that are put one after another, with those that are left
 pub record Putting (all : List (List ℕ)) (start now : Store) (from b : ℕ) (left : List (List ℕ)) : Type 0 where

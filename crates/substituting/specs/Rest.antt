@@ -6,7 +6,7 @@ use Rattle.substituting.specs.declared.spelling.Spelling.{Spelling}
 use Rattle.substituting.specs.Spelling.{line_of, lines_left}
 
 abbrev pub lines_of : Spelling → List (List ℕ)
-lines_of p = lines_left (substitution_view p.rule.now.substitution) p.text.now p.cursor
+lines_of p = lines_left (substitution_view p.rule.now.substitution) p.text.bytes.now p.cursor
 
 -- as an iterator gives them
 abbrev pub rest_of : Spelling → List (Option (ArrayVec ℕ))

@@ -1,15 +1,12 @@
-// Lines as values.
+// Lines that are spelled out.
 ghost use Rattle.std.specs.Prelude.{◌≡◌};
 ghost use Rattle.substituting.specs.Spelling.{lengthened};
 
 use arrayvec::ArrayVec;
 use lines::line::LINE_MAX;
 
-// The text of a line.
-pub type Line = ArrayVec<u8, LINE_MAX>;
-
 // A line that is spelled out: none if it is longer than a line may be.
-pub type Spelled = Option<Line>;
+pub type Spelled = Option<ArrayVec<u8, LINE_MAX>>;
 
 // Adds bytes to a line that is being spelled out.
 pub fn add(line: &mut Spelled, run: &[u8])

@@ -14,7 +14,8 @@ use crate::line::Spelled;
 use crate::rule::Rule;
 use crate::spelling::Spelling;
 use command::said::Substitution;
-use lines::line::fits_line;
+use lines::line::{LINE_MAX, fits_line};
+use lines::line_of::LineOf;
 use lines::store::{CAPACITY_MAX, LineStore};
 use ranges::range::Range;
 
@@ -65,7 +66,7 @@ fn reckon_lines<T: LineStore>(text: &T, range: Range, rule: &Rule<'_>) -> Reckon
         last: None,
     };
     for n in range.first..=range.last {
-        sum = sum.with_line(text, n, rule);
+        sum = sum.with_line(&LineOf { store: text, n }, rule);
     }
     Reckoned {
         count: plus(sum.count, range.count - range.last),
@@ -81,14 +82,13 @@ fn plus(count: usize, more: usize) -> usize
 }
 
 impl Reckoned {
-    // With line `n` of a text, which is in the range.
-    fn with_line<T: LineStore>(self, text: &T, n: usize, rule: &Rule<'_>) -> Reckoned
-        requires { (1 ≤ n) × (n ≤ length (T.LineStore.meaning text.now).lines) }
-        ensures { result ≡ reckoned_pieces self (pieces_for (substitution_view rule.now.substitution) n (line_at (T.LineStore.meaning text.now) n).text) }
+    // With a line of a text more, which is in the range.
+    fn with_line<T: LineStore>(self, line: &LineOf<'_, T>, rule: &Rule<'_>) -> Reckoned
+        ensures { result ≡ reckoned_pieces self (pieces_for (substitution_view rule.now.substitution) line.now.n (line_at (T.LineStore.meaning line.now.store.now) line.now.n).text) }
     {
-        match rule.hit(text, n) {
+        match rule.hit(line, &mut [0; LINE_MAX]) {
             None => self.with_old(),
-            Some(line) => Spelling::new(rule, &line).fold(self, Reckoned::with_new),
+            Some(text) => Spelling::new(rule, text).fold(self, Reckoned::with_new),
         }
     }
 

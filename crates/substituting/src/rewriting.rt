@@ -11,12 +11,11 @@ ghost use Rattle.substituting.specs.Rest.{lines_of};
 use crate::rule::Rule;
 use crate::spelling::Spelling;
 use command::said::Substitution;
-use lines::line::Tag;
+use editing::single::{put_line, take_line};
+use lines::line::{LINE_MAX, LineText, PLAIN};
+use lines::line_of::LineOf;
 use lines::store::LineStore;
 use ranges::range::Range;
-
-// The tag of a line that is created: no mark, and not chosen.
-const PLAIN: Tag = 0;
 
 // Rewrites the lines of the range that match.
 pub fn rewrite<T: LineStore>(text: &mut T, range: Range, substitution: Substitution<'_>)
@@ -55,11 +54,12 @@ fn rewrite_line<T: LineStore>(text: &mut T, done: usize, rule: &Rule<'_>) -> usi
     ensures done { result ≡ done + length (lines_for (substitution_view rule.now.substitution) (seen (line_at (T.LineStore.meaning text.old) (done + 1)))) }
 {
     let n = done + 1;
-    let Some(line) = rule.hit(text, n) else {
+    let mut buffer = [0; LINE_MAX];
+    let Some(line) = rule.hit(&LineOf { store: text, n }, &mut buffer) else {
         return n;
     };
     take_line(text, n);
-    put_lines(text, done, Spelling::new(rule, &line))
+    put_lines(text, done, Spelling::new(rule, line))
 }
 
 // Puts lines that are spelled out behind line `behind`, and answers the number of the last of them.
@@ -73,28 +73,9 @@ fn put_lines<T: LineStore>(text: &mut T, behind: usize, lines: Spelling<'_>) -> 
 {
     let mut done = behind;
     for line in lines {
-        put_line(text, done, &line.unwrap());
+        let bytes = line.unwrap();
+        put_line(text, done, LineText { bytes: &bytes }, PLAIN);
         done += 1;
     }
     done
-}
-
-// Puts a line where nothing can refuse it.
-fn put_line<T: LineStore>(text: &mut T, behind: usize, bytes: &[u8])
-    requires behind { behind ≤ length (T.LineStore.meaning text.old).lines }
-    requires room { length (T.LineStore.meaning text.old).lines < (T.LineStore.meaning text.old).capacity }
-    requires fits { fitting bytes.now ≡ true }
-    ensures lines { seen_lines (T.LineStore.meaning text.new) ≡ take behind (seen_lines (T.LineStore.meaning text.old)) ++ (created bytes.now ∷ drop behind (seen_lines (T.LineStore.meaning text.old))) }
-    ensures capacity { (T.LineStore.meaning text.new).capacity ≡ (T.LineStore.meaning text.old).capacity }
-{
-    let _ = text.put(behind, bytes, PLAIN);
-}
-
-// Takes line `n` away.
-fn take_line<T: LineStore>(text: &mut T, n: usize)
-    requires { (1 ≤ n) × (n ≤ length (T.LineStore.meaning text.old).lines) }
-    ensures lines { seen_lines (T.LineStore.meaning text.new) ≡ take (n - 1) (seen_lines (T.LineStore.meaning text.old)) ++ drop n (seen_lines (T.LineStore.meaning text.old)) }
-    ensures capacity { (T.LineStore.meaning text.new).capacity ≡ (T.LineStore.meaning text.old).capacity }
-{
-    let _ = text.remove(n);
 }

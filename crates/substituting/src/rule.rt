@@ -6,6 +6,7 @@ ghost use Rattle.rules.specs.Patterns.{found};
 ghost use Rattle.substituting.specs.Readings.{ReadFrom, searches_of};
 
 use command::said::Substitution;
+use lines::line::LineText;
 use matching::{Match, find};
 use patterns::Pattern;
 
@@ -38,12 +39,11 @@ impl<'a> Rule<'a> {
     }
 
     // The match in a line at place `from` or behind it.
-    pub fn search(&self, line: &[u8], from: usize) -> Option<Match>
-        requires short { length line.now ≤ 255 }
-        ensures value { result ≡ found (sought_view self.now.substitution.sought) line.now from }
-        ensures within { IfSome result (λ m. (from ≤ m.start) × (m.start ≤ m.end) × (m.end ≤ length line.now)) }
+    pub fn search(&self, line: LineText<'_>, from: usize) -> Option<Match>
+        ensures value { result ≡ found (sought_view self.now.substitution.sought) line.entry.bytes.now from }
+        ensures within { IfSome result (λ m. (from ≤ m.start) × (m.start ≤ m.end) × (m.end ≤ length line.entry.bytes.now)) }
     {
         let pattern = self.pattern.as_ref()?;
-        find(pattern, line, from).unwrap_or(None)
+        find(pattern, line.bytes, from).unwrap_or(None)
     }
 }

@@ -4,18 +4,19 @@ ghost use Rattle.std.proofs.Props.{props};
 ghost use Rattle.substituting.specs.Places.{Placed};
 
 use crate::cursor::{Cursor, Step, Token};
-use crate::line::{Line, Spelled, add};
+use crate::line::{Spelled, add};
 use crate::rule::Rule;
+use arrayvec::ArrayVec;
+use lines::line::LineText;
 
 // Those that are left, behind the place of a cursor.
 #[derive(Drop)]
 pub struct Spelling<'a> {
     pub rule: &'a Rule<'a>,
-    pub text: &'a [u8],
+    pub text: LineText<'a>,
     // None behind the last line.
     pub cursor: Option<Cursor<'a>>,
-    ghost short: { length text.now ≤ 255 },
-    ghost placed: { IfSome cursor (Placed (length text.now)) } by { Prim.hlevel props },
+    ghost placed: { IfSome cursor (Placed (length text.bytes.now)) } by { Prim.hlevel props },
 }
 
 impl<'a> Spelling<'a> {
@@ -26,10 +27,9 @@ impl<'a> Spelling<'a> {
     ghost use Rattle.substituting.specs.Rest.{lines_of};
 
     // All the lines that a line becomes.
-    pub fn new(rule: &'a Rule<'a>, line: &'a Line) -> Spelling<'a>
-        ensures { lines_of result ≡ substituted (substitution_view rule.now.substitution) line.now.items }
+    pub fn new(rule: &'a Rule<'a>, text: LineText<'a>) -> Spelling<'a>
+        ensures { lines_of result ≡ substituted (substitution_view rule.now.substitution) text.entry.bytes.now }
     {
-        let text = line.as_slice();
         Spelling {
             rule,
             text,
@@ -39,18 +39,18 @@ impl<'a> Spelling<'a> {
                 at: 0,
                 from: 0,
                 last: None,
-                searches: rule.searches(text.len()),
+                searches: rule.searches(text.bytes.len()),
             }),
         }
     }
 
     // Spells out the line at a place, and answers the place behind it.
     fn spell(&self, from: Cursor<'a>) -> (Spelled, Option<Cursor<'a>>)
-        requires placed { Placed (length self.now.text.now) from }
-        ensures line { map line_of (lines_from (substitution_view self.now.rule.now.substitution) self.now.text.now from.entry) ≡ result.0 ∷ map line_of (lines_left (substitution_view self.now.rule.now.substitution) self.now.text.now result.1) }
-        ensures placed { IfSome result.1 (Placed (length self.now.text.now)) }
+        requires placed { Placed (length self.now.text.bytes.now) from }
+        ensures line { map line_of (lines_from (substitution_view self.now.rule.now.substitution) self.now.text.bytes.now from.entry) ≡ result.0 ∷ map line_of (lines_left (substitution_view self.now.rule.now.substitution) self.now.text.bytes.now result.1) }
+        ensures placed { IfSome result.1 (Placed (length self.now.text.bytes.now)) }
     {
-        let mut line = Some(Line::new());
+        let mut line = Some(ArrayVec::new());
         let mut here = from;
         loop {
             let Step { token, next } = self.step(here);

@@ -13,8 +13,8 @@ use matching::Match;
 impl<'a> Spelling<'a> {
     // The next token, and the place behind it.
     pub fn step(&self, cursor: Cursor<'a>) -> Step<'a>
-        requires placed { Placed (length self.now.text.now) cursor }
-        ensures { Stepped (substitution_view self.now.rule.now.substitution) self.now.text.now cursor.entry result }
+        requires placed { Placed (length self.now.text.bytes.now) cursor }
+        ensures { Stepped (substitution_view self.now.rule.now.substitution) self.now.text.bytes.now cursor.entry result }
     {
         match next_bit(cursor.bits) {
             Some((bit, bits)) => Step {
@@ -27,14 +27,14 @@ impl<'a> Spelling<'a> {
 
     // The next token where no replacement is being filled in: the text up to the next match, or to its end.
     fn seek(&self, cursor: Cursor<'a>) -> Step<'a>
-        requires placed { Placed (length self.now.text.now) cursor }
+        requires placed { Placed (length self.now.text.bytes.now) cursor }
         requires filled { bits_of cursor.bits.now ≡ [] }
-        ensures { Stepped (substitution_view self.now.rule.now.substitution) self.now.text.now cursor.entry result }
+        ensures { Stepped (substitution_view self.now.rule.now.substitution) self.now.text.bytes.now cursor.entry result }
     {
         let at = cursor.at;
         let Some(run) = self.next_match(cursor) else {
             return Step {
-                token: Token::Run(&self.text[at..]),
+                token: Token::Run(&self.text.bytes[at..]),
                 next: None,
             };
         };
@@ -46,14 +46,14 @@ impl<'a> Spelling<'a> {
         }
         let start = run.start;
         Step {
-            token: Token::Run(&self.text[at..start]),
+            token: Token::Run(&self.text.bytes[at..start]),
             next: Some(self.replace(cursor, run)),
         }
     }
 
     // The next match, if one more may be sought and there is one.
     fn next_match(&self, cursor: Cursor<'a>) -> Option<Match>
-        ensures { Found (sought_view self.now.rule.now.substitution.sought) self.now.text.now cursor.entry result }
+        ensures { Found (sought_view self.now.rule.now.substitution.sought) self.now.text.bytes.now cursor.entry result }
     {
         if cursor.searches == 0 {
             return None;
@@ -65,14 +65,14 @@ impl<'a> Spelling<'a> {
     fn replace(&self, cursor: Cursor<'a>, run: Match) -> Cursor<'a>
         requires some { 1 ≤ cursor.searches }
         requires order { run.start ≤ run.end }
-        requires inside { run.end ≤ length self.now.text.now }
-        ensures { Behind (substitution_view self.now.rule.now.substitution) self.now.text.now cursor.entry run result }
+        requires inside { run.end ≤ length self.now.text.bytes.now }
+        ensures { Behind (substitution_view self.now.rule.now.substitution) self.now.text.bytes.now cursor.entry run result }
     {
         let rule = self.rule;
         let Match { start, end } = run;
         Cursor {
             bits: rule.substitution.replacement,
-            run: &self.text[start..end],
+            run: &self.text.bytes[start..end],
             at: end,
             from: if start == end { start + 1 } else { end },
             last: Some(end),

@@ -1,33 +1,37 @@
-use Rattle.std.proofs.Common.{List, ℕ, ◌∷◌, ◌++◌, take, drop, Option, sym, refl, ap, ◌∙◌, subst}
+use Rattle.std.proofs.Common.{◌≡◌, true, List, ℕ, ◌∷◌, ◌++◌, take, drop, Option, sym, refl, ap, ◌∙◌, subst}
 use Rattle.std.specs.Option.{IsSome}
 use Rattle.arrayvec.specs.ArrayVec.{ArrayVec}
 use Rattle.lines.specs.Line.{fitting}
+use Rattle.lines.specs.Store.{Store}
 use Rattle.rules.specs.Lines.{seen_lines, created}
 use Rattle.substituting.specs.Rest.{lines_of}
-use Rattle.substituting.proofs.Placing.{next_put, same_items, putting_more}
+use Rattle.substituting.proofs.Placing.{seen-inserted, fitting_short, fitting_unbroken, next_put, same_items, putting_more}
 use Rattle.substituting.proofs.rewriting.put_lines.Goals as goal
 
-pub unwrap-requires : goal.unwrap-requires
-unwrap-requires g c =
+pub unwrap-bytes-requires : goal.unwrap-bytes-requires
+unwrap-bytes-requires g c =
     let k = next_put _ _ _ _ _ _ _ _ c.loop-line.invariant c.in-Some.ensures.steps in
     subst (λ (o : Option (ArrayVec ℕ)). IsSome o) (sym k.first-is) refl
 
-pub put_line-requires-clause-fits : goal.put_line-requires-clause-fits
-put_line-requires-clause-fits g c =
+pub invariant_of-put_line : goal.invariant_of-put_line
+invariant_of-put_line g c =
     let k = next_put _ _ _ _ _ _ _ _ c.loop-line.invariant c.in-Some.ensures.steps in
-    ap fitting (c.deref.ensures.0 ∙ same_items c.unwrap.result k.line (sym c.unwrap.ensures ∙ k.first-is)) ∙ k.fits
+    let w = c.deref.result.now in
+    let fits : fitting w ≡ true = ap fitting (c.deref.ensures.0 ∙ same_items c.unwrap-bytes.result k.line (sym c.unwrap-bytes.ensures ∙ k.first-is)) ∙ k.fits in
+    record { short = fitting_short w fits; unbroken = fitting_unbroken w fits }
 
 pub loop-line-preserved : goal.loop-line-preserved
 loop-line-preserved g c =
     let now = g.T.LineStore.meaning c.loop-line.text in
     let b = c.loop-line.done in
     let k = next_put _ _ _ _ _ _ _ _ c.loop-line.invariant c.in-Some.ensures.steps in
-    let same = c.deref.ensures.0 ∙ same_items c.unwrap.result k.line (sym c.unwrap.ensures ∙ k.first-is) in
+    let same = c.deref.ensures.0 ∙ same_items c.unwrap-bytes.result k.line (sym c.unwrap-bytes.ensures ∙ k.first-is) in
     record {
       lines = k.others;
       rest-is = k.rest-is;
       putting = putting_more (lines_of c.args.lines) (g.T.LineStore.meaning c.args.text.now) now (g.T.LineStore.meaning c.put_line.new.text) c.args.behind b
           k.line k.others k.putting
-          (c.put_line.ensures.lines ∙ ap (λ (x : List ℕ). take b (seen_lines now) ++ (created x ∷ drop b (seen_lines now))) same)
-          c.put_line.ensures.capacity;
+          (ap seen_lines c.put_line.ensures ∙ seen-inserted now.lines b _
+          ∙ ap (λ (x : List ℕ). take b (seen_lines now) ++ (created x ∷ drop b (seen_lines now))) same)
+          (ap (λ (x : Store). x.capacity) c.put_line.ensures);
     }

@@ -15,10 +15,10 @@ use Rattle.substituting.proofs.reckoning.Reckoned.with_line.Goals as goal
 pub returns-in-Some : goal.returns-in-Some
 returns-in-Some g c =
     let s = substitution_view c.args.rule.now.substitution in
-    let t = (line_at (g.T.LineStore.meaning c.args.text.now) c.args.n).text in
+    let t = (line_at (g.T.LineStore.meaning c.args.line.now.store.now) c.args.line.now.n).text in
     let k = c.args.self in
     fold_from_yields_List _ reckoned_line k c.fold.result c.fold.ensures.ran (YieldsList-from_first (λ x. x) rest_of _ refl) (λ a x b q h. search (rules, tests))
     ∙ ap (λ (ls : List (List ℕ)). fold reckoned_line k (map line_of ls)) c.new.ensures
     ∙ ap (λ (x : List ℕ). fold reckoned_line k (map line_of (substituted s x))) c.in-Some.ensures.line
     ∙ reckoned_news (substituted s t) k
-    ∙ sym (ap (λ (ps : List Piece). reckoned_pieces k ps) (pieces_hit s c.args.n t (sym c.in-Some.ensures.hit)))
+    ∙ sym (ap (λ (ps : List Piece). reckoned_pieces k ps) (pieces_hit s c.args.line.now.n t (sym c.in-Some.ensures.hit)))

@@ -10,8 +10,8 @@ returns-in_err-pattern-clause-value c =
     let r = c.args.self.now in
     let e : None ≡ r.pattern = sym (ap option_copied c.in_err-pattern.was) ∙ c.as_ref.ensures.value in
     c.from_residual.ensures
-    ∙ ap (λ (o : Option PatternCode). found_by (option_map meaning o) c.args.line.now c.args.from) e
-    ∙ found_of r.pattern r.substitution.sought c.args.line.now c.args.from r.read
+    ∙ ap (λ (o : Option PatternCode). found_by (option_map meaning o) c.args.line.bytes.now c.args.from) e
+    ∙ found_of r.pattern r.substitution.sought c.args.line.bytes.now c.args.from r.read
 
 pub returns-clause-value : goal.returns-clause-value
 returns-clause-value c =
@@ -19,6 +19,6 @@ returns-clause-value c =
     let p = c.in_ok-pattern.pattern.now in
     let e : Some p ≡ r.pattern = sym (ap option_copied c.in_ok-pattern.was) ∙ c.as_ref.ensures.value in
     c.unwrap_or.ensures
-    ∙ answered (meaning p) c.args.line.now c.args.from c.find.result c.requires.short c.find.ensures.value
-    ∙ ap (λ (o : Option PatternCode). found_by (option_map meaning o) c.args.line.now c.args.from) e
-    ∙ found_of r.pattern r.substitution.sought c.args.line.now c.args.from r.read
+    ∙ answered (meaning p) c.args.line.bytes.now c.args.from c.find.result c.args.line.short c.find.ensures.value
+    ∙ ap (λ (o : Option PatternCode). found_by (option_map meaning o) c.args.line.bytes.now c.args.from) e
+    ∙ found_of r.pattern r.substitution.sought c.args.line.bytes.now c.args.from r.read

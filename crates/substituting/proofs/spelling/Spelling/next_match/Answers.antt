@@ -5,5 +5,5 @@ use Rattle.substituting.proofs.spelling.Spelling.next_match.Goals as goal
 
 pub returns : goal.returns
 returns c =
-    found_next c.args.cursor (sought_view c.args.self.now.rule.now.substitution.sought) c.args.self.now.text.now c.search.result
+    found_next c.args.cursor (sought_view c.args.self.now.rule.now.substitution.sought) c.args.self.now.text.bytes.now c.search.result
     (omega arith) c.search.ensures.value c.search.ensures.within

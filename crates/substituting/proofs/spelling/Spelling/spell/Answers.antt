@@ -9,12 +9,12 @@ use Rattle.substituting.proofs.spelling.Spelling.spell.Goals.{in-Run, in-Byte}
 pub loop-bytes-init : goal.loop-bytes-init
 loop-bytes-init c =
     let p = c.args.self.now in
-    begun (substitution_view p.rule.now.substitution) p.text.now c.args.from c.new.result c.new.ensures c.requires.placed
+    begun (substitution_view p.rule.now.substitution) p.text.bytes.now c.args.from c.new.result c.new.ensures c.requires.placed
 
 pub loop-bytes-preserved : goal.loop-bytes-preserved
 loop-bytes-preserved c =
     let p = c.args.self.now in
-    let go = continued (substitution_view p.rule.now.substitution) p.text.now c.args.from c.loop-bytes.here c.loop-bytes.line c.step.result
+    let go = continued (substitution_view p.rule.now.substitution) p.text.bytes.now c.args.from c.loop-bytes.here c.loop-bytes.line c.step.result
     c.loop-bytes.invariant c.step.ensures c.in-Some.cursor c.match-token.line in
     elim c.match-token.branch [
       | in-Run w ↦ go w.in-Run.bytes.now (λ ls. ap (λ (k : Token). ahead k ls) w.in-Run.is) c.in-Some.is (w.line-is ∙ w.add.ensures)
