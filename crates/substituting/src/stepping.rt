@@ -12,6 +12,7 @@ use matching::Match;
 
 impl<'a> Spelling<'a> {
     // The next token, and the place behind it.
+    // Each step asks that its cursor lies in the text: a ghost field of Cursor, which would say so too, rules out `..cursor`.
     pub fn step(&self, cursor: Cursor<'a>) -> Step<'a>
         requires placed { Placed (length self.now.text.bytes.now) cursor }
         ensures { Stepped (substitution_view self.now.rule.now.substitution) self.now.text.bytes.now cursor.entry result }
