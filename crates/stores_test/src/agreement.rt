@@ -76,21 +76,21 @@ fn step<A: LineStore, B: LineStore>(
             let accepted = n <= count && count < CAPACITY;
             assert_eq!(rt; a.put(n, text.as_slice(), tag).is_ok(), accepted);
             assert_eq!(rt; b.put(n, text.as_slice(), tag).is_ok(), accepted);
-            if n <= count && accepted {
+            if accepted {
                 plain.insert(n, Plain { text, tag })?;
             }
         },
         2 | 3 => {
             assert_eq!(rt; a.remove(n).is_ok(), there);
             assert_eq!(rt; b.remove(n).is_ok(), there);
-            if 1 <= n && n <= count {
+            if there {
                 let _ = plain.remove(n - 1);
             }
         },
         _ => {
             assert_eq!(rt; a.set_tag(n, tag).is_ok(), there);
             assert_eq!(rt; b.set_tag(n, tag).is_ok(), there);
-            if 1 <= n && n <= count {
+            if there {
                 plain[n - 1].tag = tag;
             }
         },
