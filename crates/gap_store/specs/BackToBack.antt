@@ -1,7 +1,7 @@
 -- Rows that lie back to back: their totals, cuts of them, and where each lies.
 use Rattle.std.specs.Prelude.{◌≡◌, ℕ, zero, suc, ◌+◌, ◌*◌, ◌<◌, ◌≤◌, Bool, true, ◌&&◌, List, [], ◌∷◌, ◌++◌, length, get_or, take, drop, set, ◌==◌, nat_le, slice_index_or, slice_set, refl}
 use Rattle.std.proofs.Common.{sym, ap, ◌∙◌, subst, arith, zero-add, add_assoc}
-use Rattle.std.proofs.lemmas.List.{append-nil, append_assoc, drop-drop, drop_all, drop_more, take_all, take_more, take-append-drop, take-append-le, drop-append-le, length-drop, length-take-le, get_or_at, set_at}
+use Rattle.std.proofs.lemmas.List.{append_assoc, drop-drop, drop_more, take_more, take-append-drop, take-append-le, drop-append-le, length-drop, length-take-le, get_or_at, set_at}
 use Rattle.std.proofs.lemmas.Bool.{eqb-true, leb-true, and_parts, and_from, eq-eqb, le-leb}
 use Rattle.lines.specs.Line.{Line, blank}
 use Rattle.gap_store.specs.declared.row.Row.{Row}
@@ -164,7 +164,3 @@ module _ (from : ℕ) (rs : List Row) where
       ∙ sym (append_assoc (relaid from (take k rs)) (r ∷ []) (drop (k + 1) rs))
       ∙ ap (λ (z : List Row). z ++ drop (k + 1) rs) (relaid_push from (take k rs) (slice_index_or rs k no_row))
       ∙ ap (λ (z : List Row). relaid from z ++ drop (k + 1) rs) (sym (take_more rs k no_row lt))
-
-  pub part_all : (k : ℕ) → length rs ≤ k → part k ≡ relaid from rs
-  part_all k le =
-      ap (λ (z : List Row). relaid from (take k rs) ++ z) (drop_all k rs le) ∙ append-nil (relaid from (take k rs)) ∙ ap (relaid from) (take_all k rs le)

@@ -50,9 +50,6 @@ module _ (rows : List Row) (f b : ℕ) (bytes : List ℕ) (p q : ℕ)
 
   -- line n, by the row where it lies
   module _ (n : ℕ) (one : 1 ≤ n) (within : n ≤ f + (length rows - b)) where
-    pub place-within : place f b n < length rows
-    place-within = grind (arith, nat_tests)
-
     pub row_at_lem : get_or (held rows f b) (n - 1) no_row ≡ slice_index_or rows (place f b n) no_row
     row_at_lem = grind (arith, places, nat_tests)
 

@@ -16,7 +16,7 @@ use Rattle.gap_store.specs.Rows.{no_row, total, cut, laid, gap_meaning}
 use Rattle.gap_store.specs.Moves.{overwritten_one}
 use Rattle.gap_store.specs.BackToBack.{total-append, total-within, laid-total}
 use Rattle.gap_store.specs.Edits.{put-length, put_front, put_behind, put-lines, lower, remove_front, remove-lines, set_front, set_behind, set_lines}
-use Rattle.gap_store.specs.Sides.{room, stop, front-total, count, lies, line_here}
+use Rattle.gap_store.specs.Sides.{room, front-total, count, lies, line_here}
 
 -- the meaning of a store, open to these proofs
 abbrev pub raw : GapStore → Store
@@ -85,9 +85,6 @@ module _ (s : GapStore) where
 
   pub room_of : p + 255 * (b - f) ≤ q
   room_of = room rows f b bytes p q s.rows.order s.rows.last s.roomy s.front s.behind
-
-  pub stop_of : q ≤ length bytes
-  stop_of = stop rows f b bytes p q s.rows.order s.rows.last s.roomy s.front s.behind
 
   -- what the first lines take up lies within what is held
   pub offset_within : (at : ℕ) → total (take at (held rows f b)) ≤ p + (length bytes - q)

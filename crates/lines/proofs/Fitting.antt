@@ -1,11 +1,10 @@
 -- Every line of a store stays a line where one is put in, removed or has its tag set.
-use Rattle.std.proofs.Common.{◌≡◌, ℕ, ◌+◌, ◌-◌, ◌^◌, ◌<◌, ◌≤◌, true, cond, not, leb, List, [], ◌∷◌, ◌++◌, length, get_or, take, drop, set, is_ok, Ok, Result, sym, refl, ap, ◌∙◌, subst, ⊎_elim, arith}
+use Rattle.std.proofs.Common.{◌≡◌, ℕ, ◌+◌, ◌-◌, ◌^◌, ◌<◌, ◌≤◌, true, not, leb, List, ◌∷◌, ◌++◌, length, get_or, take, drop, set, Ok, sym, ap, ◌∙◌, subst, ⊎_elim, arith}
 use Rattle.std.proofs.lemmas.List.{places, get_or-set_same, get_or-set_other}
 use Rattle.std.proofs.lemmas.Bool.{cases_eq, cases_lt, cases_order, and_parts, leb-true, not-true, ltb-true}
 use Rattle.lines.specs.Line.{Line, LineFits, holds_break, fitting, defined, blank}
 use Rattle.std.proofs.lemmas.Bool.Decides.{nat_tests}
-use Rattle.lines.specs.declared.fault.StoreFault.{StoreFault}
-use Rattle.lines.specs.Store.{Store, with_lines, inserted, put_check, put_answer, put_after}
+use Rattle.lines.specs.Store.{put_check}
 
 -- every line of a list, and blank lines behind it
 abbrev pub Each : List Line → Type 0
@@ -13,9 +12,6 @@ Each ls = (n : ℕ) → LineFits (get_or ls (n - 1) blank)
 
 pub each_at : (ls : List Line) → Each ls → (k : ℕ) → LineFits (get_or ls k blank)
 each_at ls h k = subst (λ (j : ℕ). LineFits (get_or ls j blank)) (omega arith) (h (k + 1))
-
-pub each_none : Each []
-each_none n = (omega arith, refl, omega arith)
 
 pub each-inserted : (ls : List Line) (n : ℕ) (l : Line) → n ≤ length ls → LineFits l → Each ls → Each (take n ls ++ l ∷ drop n ls)
 each-inserted ls n l le fits h m =
@@ -65,9 +61,3 @@ accepted count capacity n t g x e =
     let f : fitting t ≡ true = grind (arith, nat_tests) in
     let d : defined g ≡ true = grind (arith, nat_tests) in
     record { within = within; free = free; fits = tested t g f d }
-
--- the store behind an accepted put
-pub put-done : (s : Store) (n : ℕ) (t : List ℕ) (g : ℕ) (x : Unit {0}) → Ok x ≡ put_answer s n t g
-    → with_lines s (inserted s.lines n (record { text = t; tag = g })) ≡ put_after s n t g
-put-done s n t g x e =
-    ap (λ (r : Result (Unit {0}) StoreFault). cond (is_ok r) (with_lines s (inserted s.lines n (record { text = t; tag = g }))) s) e

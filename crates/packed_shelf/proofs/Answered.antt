@@ -1,6 +1,6 @@
 -- What a packed shelf answers to a change, by how much there is room for.
-use Rattle.std.proofs.Common.{◌≡◌, ℕ, ◌+◌, ◌-◌, ◌<◌, ◌≤◌, Bool, true, false, cond, not, ◌&&◌, leb, List, length, get_or, set, is_ok, Some, Ok, Err, Option, Result, unwrap_or, sym, refl, ap, ◌∙◌, arith, length-set}
-use Rattle.std.proofs.lemmas.Bool.{le-leb, lt-leb, lt-ltb, and_right}
+use Rattle.std.proofs.Common.{◌≡◌, ℕ, ◌+◌, ◌-◌, ◌<◌, ◌≤◌, true, false, cond, not, ◌&&◌, leb, List, length, get_or, set, is_ok, Some, Ok, Err, Option, Result, unwrap_or, sym, refl, ap, ◌∙◌, arith, length-set}
+use Rattle.std.proofs.lemmas.Bool.{le-leb, lt-leb, lt-ltb}
 use Rattle.shelf.specs.declared.fault.ShelfFault.{ShelfFault}
 use Rattle.shelf.specs.declared.fault.ShelfFault.TheVariants.{Full}
 use Rattle.shelf.specs.Name.{is_name}
@@ -8,7 +8,7 @@ use Rattle.shelf.specs.Shelf.{File, Shelf, empty_file, with_files, name_at, pres
 use Rattle.shelf.proofs.Lookup.{found_name}
 use Rattle.packed_shelf.specs.declared.row.Row.{Row}
 use Rattle.packed_shelf.specs.Clearing.{old_emptied, old_answer, old_after, new_made, new_answer}
-use Rattle.packed_shelf.specs.Packed.{files_of, packed}
+use Rattle.packed_shelf.specs.Packed.{packed}
 use Rattle.packed_shelf.specs.Rows.{total, Placed}
 use Rattle.packed_shelf.specs.After.{old_held, new_held}
 use Rattle.packed_shelf.specs.Kept.{Kept, placed-contents}
@@ -37,18 +37,6 @@ module _ (rows : List Row) (bytes : List ℕ) (kept : Kept rows bytes) where
           rw (at, fits) refl
 
   module _ (n : List ℕ) (size : ℕ) where
-    pub new-many : length rows ≡ 8 → new_answer (packed rows bytes) n size ≡ Err Full
-    new-many many =
-        let h = (new_held rows bytes kept n).1 in
-        let over : leb (length (new_made (packed rows bytes) n)) 8 ≡ false = lt-leb (length (new_made (packed rows bytes) n)) 8 (omega arith) in
-        rw over refl
-
-    pub new_full : length bytes < total rows + size → new_answer (packed rows bytes) n size ≡ Err Full
-    new_full over =
-        let h = (new_held rows bytes kept n).0 in
-        let full : leb (held (new_made (packed rows bytes) n) + size) (length bytes) ≡ false = lt-leb (held (new_made (packed rows bytes) n) + size) (length bytes) (omega arith) in
-        ap (λ (b : Bool). cond (not b) (Err Full) (Ok (length (files_of rows bytes)))) (and_right (leb (length (new_made (packed rows bytes) n)) 8) _ full)
-
     pub new_fits : length rows < 8 → total rows + size ≤ length bytes → new_answer (packed rows bytes) n size ≡ Ok (length rows)
     new_fits few room =
         let h = (new_held rows bytes kept n).0 in

@@ -72,10 +72,3 @@ module _ (rows : List Row) (p : ℕ) (r : Row) (lt : p < length rows) (is : r �
         ap (λ (xs : List ℕ). put_mid end (end + m - end) xs more)
         (shift-inside bytes end (end + m) (used - end) (omega arith) (omega arith) ∙ ap (λ (j : ℕ). shifted bytes end (end + m) j) tail)
         ∙ (goal ∙ ap (λ (j : ℕ). take j bytes ++ (more ++ (take n (drop j bytes) ++ drop (total rows + m) bytes))) e)
-
--- where a file lies
-pub file-lies : (rows : List Row) (p : ℕ) → p < length rows → (start_at rows p ≤ end_at rows p) × (end_at rows p ≤ total rows)
-file-lies rows p lt = from (a_row rows p lt)
-  where
-    from : ((r : Row) × (r ≡ slice_index_or rows p r)) → (start_at rows p ≤ end_at rows p) × (end_at rows p ≤ total rows)
-    from (r, is) = let e = end_is rows p r lt is in let b = behind_is rows p r lt is in (omega arith, omega arith)

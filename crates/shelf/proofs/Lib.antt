@@ -1,4 +1,3 @@
 pub mod Lookup
 pub mod Names
 pub mod Padding
-pub mod Sizes

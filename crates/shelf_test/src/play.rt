@@ -63,8 +63,5 @@ fn copies<S: Shelf>(
 }
 
 fn numbered<T>(answer: Result<T, ShelfFault>) -> Result<T, u8> {
-    match answer {
-        Ok(value) => Ok(value),
-        Err(fault) => Err(fault.number()),
-    }
+    answer.map_err(|fault| fault.number())
 }

@@ -220,13 +220,9 @@ fn makes_shelves_up_to_the_limit(rt: HostRuntime) -> Result<(), Fail> {
             Call::Clear(b"a", 1_048_576, Ok(0)),
         ],
     )?;
-    match PackedShelf::new(rt.alloc(), 1_048_577) {
-        Ok(_) => Err(Fail::new("made above the limit")),
-        Err(fault) => {
-            assert_eq!(rt; fault.number(), 30);
-            Ok(())
-        },
-    }
+    let above = PackedShelf::new(rt.alloc(), 1_048_577);
+    assert_eq!(rt; above.err().map(|fault| fault.number()), Some(30));
+    Ok(())
 }
 
 // A guard that must be made.
@@ -234,10 +230,7 @@ fn guarded<S>(below: S, prefix: &[u8]) -> Result<Guard<S>, Fail>
 where
     S: Drop,
 {
-    match Guard::new(below, prefix) {
-        Ok(made) => Ok(made),
-        Err(_) => Err(Fail::new("no guard")),
-    }
+    Guard::new(below, prefix).map_err(|_| Fail::new("no guard"))
 }
 
 #[test]

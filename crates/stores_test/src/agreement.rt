@@ -69,28 +69,31 @@ fn step<A: LineStore, B: LineStore>(
     let n = random.below(CAPACITY + 3);
     let tag = random.next() & 0x7ff_ffff;
     let count = plain.len();
-    if kind < 2 {
-        let text = some_text(heap, random)?;
-        let accepted = n <= count && count < CAPACITY;
-        assert_eq!(rt; a.put(n, text.as_slice(), tag).is_ok(), accepted);
-        assert_eq!(rt; b.put(n, text.as_slice(), tag).is_ok(), accepted);
-        if n <= count && accepted {
-            plain.insert(n, Plain { text, tag })?;
-        }
-        return Ok(());
-    }
-    if kind < 4 {
-        assert_eq!(rt; a.remove(n).is_ok(), 1 <= n && n <= count);
-        assert_eq!(rt; b.remove(n).is_ok(), 1 <= n && n <= count);
-        if 1 <= n && n <= count {
-            let _ = plain.remove(n - 1);
-        }
-        return Ok(());
-    }
-    assert_eq!(rt; a.set_tag(n, tag).is_ok(), 1 <= n && n <= count);
-    assert_eq!(rt; b.set_tag(n, tag).is_ok(), 1 <= n && n <= count);
-    if 1 <= n && n <= count {
-        plain[n - 1].tag = tag;
+    let there = 1 <= n && n <= count;
+    match kind {
+        0 | 1 => {
+            let text = some_text(heap, random)?;
+            let accepted = n <= count && count < CAPACITY;
+            assert_eq!(rt; a.put(n, text.as_slice(), tag).is_ok(), accepted);
+            assert_eq!(rt; b.put(n, text.as_slice(), tag).is_ok(), accepted);
+            if accepted {
+                plain.insert(n, Plain { text, tag })?;
+            }
+        },
+        2 | 3 => {
+            assert_eq!(rt; a.remove(n).is_ok(), there);
+            assert_eq!(rt; b.remove(n).is_ok(), there);
+            if there {
+                let _ = plain.remove(n - 1);
+            }
+        },
+        _ => {
+            assert_eq!(rt; a.set_tag(n, tag).is_ok(), there);
+            assert_eq!(rt; b.set_tag(n, tag).is_ok(), there);
+            if there {
+                plain[n - 1].tag = tag;
+            }
+        },
     }
     Ok(())
 }
@@ -100,11 +103,9 @@ fn some_text(heap: Global, random: &mut Random) -> Result<Vec<u8>, AllocError> {
     let longest = if random.below(4) == 0 { 256 } else { 12 };
     let size = random.below(longest);
     let first = (random.next() & 15) as u8;
-    let mut text = Vec::new(heap);
-    for i in 0..size {
-        text.push(b'a' + (i & 7) as u8 + first)?;
-    }
-    Ok(text)
+    (0..size)
+        .map(|i| b'a' + (i & 7) as u8 + first)
+        .collect(heap)
 }
 
 // A store holds the lines of the vector, and no others.

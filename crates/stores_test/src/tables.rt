@@ -4,8 +4,8 @@ use chain_store::ChainStore;
 use gap_store::GapStore;
 use lines::fault::StoreFault;
 use lines::line::{CHOSEN, Tag, UNDEFINED};
-use making::MakeFault;
 use lines::store::LineStore;
+use making::MakeFault;
 use std::process::Abort;
 use std::test::Fail;
 
@@ -118,50 +118,54 @@ const ORDER: [Call; 30] = [
 ];
 
 // A store of the greatest capacity, filled to the last line and emptied again.
-fn fill<S: LineStore>(rt: &impl Abort, store: &mut S) -> Result<(), Fail> {
+fn fill<S: LineStore>(rt: &impl Abort, store: &mut S) {
     for n in 0..4096usize {
-        one(rt, store, Call::Put(n, &LONGEST, (n % 27) as Tag, Ok(())))?;
+        one(rt, store, Call::Put(n, &LONGEST, (n % 27) as Tag, Ok(())));
     }
-    one(rt, store, Call::Put(4096, b"x", 0, Err(StoreFault::Full)))?;
+    one(rt, store, Call::Put(4096, b"x", 0, Err(StoreFault::Full)));
     one(
         rt,
         store,
         Call::Put(4097, b"x", 0, Err(StoreFault::Outside)),
-    )?;
-    one(rt, store, Call::Copy(4096, 255, Ok(&LONGEST)))?;
-    one(rt, store, Call::TagOf(2, Ok(1)))?;
-    one(rt, store, Call::TagOf(4096, Ok(18)))?;
-    one(rt, store, Call::Remove(1, Ok(())))?;
-    one(rt, store, Call::Put(4095, b"last", 0, Ok(())))?;
-    one(rt, store, Call::Copy(4096, 255, Ok(b"last")))?;
+    );
+    one(rt, store, Call::Copy(4096, 255, Ok(&LONGEST)));
+    one(rt, store, Call::TagOf(2, Ok(1)));
+    one(rt, store, Call::TagOf(4096, Ok(18)));
+    one(rt, store, Call::Remove(1, Ok(())));
+    one(rt, store, Call::Put(4095, b"last", 0, Ok(())));
+    one(rt, store, Call::Copy(4096, 255, Ok(b"last")));
     for _ in 0..4096usize {
-        one(rt, store, Call::Remove(1, Ok(())))?;
+        one(rt, store, Call::Remove(1, Ok(())));
     }
-    one(rt, store, Call::Count(0))
+    one(rt, store, Call::Count(0));
 }
 
 #[test]
 fn a_single_line(rt: HostRuntime) -> Result<(), Fail> {
-    run(&rt, &mut GapStore::new(rt.alloc(), 1)?, &SINGLE)?;
-    run(&rt, &mut ChainStore::new(rt.alloc(), 1)?, &SINGLE)
+    run(&rt, &mut GapStore::new(rt.alloc(), 1)?, &SINGLE);
+    run(&rt, &mut ChainStore::new(rt.alloc(), 1)?, &SINGLE);
+    Ok(())
 }
 
 #[test]
 fn bounds(rt: HostRuntime) -> Result<(), Fail> {
-    run(&rt, &mut GapStore::new(rt.alloc(), 2)?, &BOUNDS)?;
-    run(&rt, &mut ChainStore::new(rt.alloc(), 2)?, &BOUNDS)
+    run(&rt, &mut GapStore::new(rt.alloc(), 2)?, &BOUNDS);
+    run(&rt, &mut ChainStore::new(rt.alloc(), 2)?, &BOUNDS);
+    Ok(())
 }
 
 #[test]
 fn order(rt: HostRuntime) -> Result<(), Fail> {
-    run(&rt, &mut GapStore::new(rt.alloc(), 4)?, &ORDER)?;
-    run(&rt, &mut ChainStore::new(rt.alloc(), 4)?, &ORDER)
+    run(&rt, &mut GapStore::new(rt.alloc(), 4)?, &ORDER);
+    run(&rt, &mut ChainStore::new(rt.alloc(), 4)?, &ORDER);
+    Ok(())
 }
 
 #[test]
 fn four_thousand_lines(rt: HostRuntime) -> Result<(), Fail> {
-    fill(&rt, &mut GapStore::new(rt.alloc(), 4096)?)?;
-    fill(&rt, &mut ChainStore::new(rt.alloc(), 4096)?)
+    fill(&rt, &mut GapStore::new(rt.alloc(), 4096)?);
+    fill(&rt, &mut ChainStore::new(rt.alloc(), 4096)?);
+    Ok(())
 }
 
 // Capacities from 1 to 4,096 are made, others refused.
@@ -185,8 +189,5 @@ fn capacities(rt: HostRuntime) {
 
 // The count and the capacity of a store that was made.
 fn made<S: LineStore + Drop>(store: Result<S, MakeFault>) -> Result<(usize, usize), MakeFault> {
-    match store {
-        Ok(s) => Ok((s.count(), s.capacity())),
-        Err(fault) => Err(fault),
-    }
+    store.map(|s| (s.count(), s.capacity()))
 }
