@@ -1,7 +1,7 @@
 -- One item more over a row of places: what holds while the row is gone through, and at its end.
 use Rattle.std.proofs.Common.{◌≡◌, ℕ, zero, suc, ◌+◌, ◌-◌, ◌<◌, ◌≤◌, Bool, true, false, ◌&&◌, ◌||◌, ltb, List, ◌++◌, length, get_or, take, drop, set, replicate, Some, None, IfSome, MatchOption, Option, sym, refl, ap, ◌∙◌, ⊎_elim, suc-add, zero-add, add-one, arith}
 use Rattle.std.proofs.lemmas.List.{places, get_or-set_same, get_or-set_other, length-set}
-use Rattle.std.proofs.lemmas.Bool.{both_ways, cases_eq, cases_lt, and_right, and_parts, and_from, or_from, or_right, ltb-true}
+use Rattle.std.proofs.lemmas.Bool.{both_ways, cases_eq, cases_lt, and_left, and_right, or_left, lt-ltb, le-ltb, and_parts, and_from, or_from, or_right, ltb-true}
 use Rattle.patterns.specs.Sets.{has}
 use Rattle.patterns.specs.Items.{Bytes, Item}
 use Rattle.matching.specs.declared.reach.Reach.{Reach}
@@ -94,31 +94,92 @@ module _ (i : Item) (line : Bytes) (old : List Bool) (from : Reach) (spans : Spa
     kept_byte : (q : ℕ) → reached old q ≡ true → byte_in i.set line q ≡ by_byte i line old (suc q)
     kept_byte q t = sym (ap (λ x. x && byte_in i.set line q) (or_right (i.starred && by_byte i line old q) (reached old q) t))
 
-    pub half_kept : Halfway i line old old from.end (byte_in i.set line (from.end - 1)) (Some from)
-    half_kept =
-        let some : from.low < from.end = from.some in
-        let e : suc (from.end - 1) ≡ from.end = omega arith in
-        record {
-          long = refl;
-          short = within;
-          carries = λ t. (let q = ltb-true (from.end - 1) (length line) (and_parts (ltb (from.end - 1) (length line)) (has i.set (get_or line (from.end - 1) 0)) t).0 in omega arith);
-          carried = kept_byte (from.end - 1) spans.top ∙ ap (by_byte i line old) e;
-          done = λ k h.
+    -- and reaches n places more along a run of its bytes
+    module _ (n : ℕ) (fits : from.end + n ≤ length line + 1)
+        (run : (k : ℕ) → k < n → has i.set (get_or line (from.end - 1 + k) 0) ≡ true)
+        (stop : from.end - 1 + n < length line → has i.set (get_or line (from.end - 1 + n) 0) ≡ false) where
+      byte_at : (k : ℕ) → k < n → byte_in i.set line (from.end - 1 + k) ≡ true
+      byte_at k h =
+          let some : from.low < from.end = from.some in
+          and_from (ltb (from.end - 1 + k) (length line)) (has i.set (get_or line (from.end - 1 + k) 0)) (lt-ltb (from.end - 1 + k) (length line) (omega arith)) (run k h)
+
+      led_on : (k : ℕ) → k < n → by_byte i line old (from.end + k) ≡ true
+      led_on zero h =
+          let some : from.low < from.end = from.some in
+          let e : from.end + 0 ≡ suc (from.end - 1) = omega arith in
+          let z : from.end - 1 + 0 ≡ from.end - 1 = omega arith in
+          ap (by_byte i line old) e ∙ sym (kept_byte (from.end - 1) spans.top) ∙ ap (byte_in i.set line) (sym z) ∙ byte_at zero h
+      led_on (suc k) h =
+          let some : from.low < from.end = from.some in
+          let e : from.end + suc k ≡ suc (from.end + k) = omega arith in
+          let z : from.end + k ≡ from.end - 1 + suc k = omega arith in
+          ap (by_byte i line old) e
+          ∙ and_from ((i.starred && by_byte i line old (from.end + k)) || reached old (from.end + k)) (byte_in i.set line (from.end + k))
+          (or_left (i.starred && by_byte i line old (from.end + k)) (reached old (from.end + k)) (and_from i.starred (by_byte i line old (from.end + k)) star (led_on k (omega arith))))
+          (ap (byte_in i.set line) z ∙ byte_at (suc k) h)
+
+      no_byte : byte_in i.set line (from.end - 1 + n) ≡ false
+      no_byte =
+          ⊎_elim
+          (λ (l : from.end - 1 + n < length line). and_right (ltb (from.end - 1 + n) (length line)) (has i.set (get_or line (from.end - 1 + n) 0)) (stop l))
+          (λ (l : length line ≤ from.end - 1 + n). and_left (ltb (from.end - 1 + n) (length line)) (has i.set (get_or line (from.end - 1 + n) 0)) (le-ltb (from.end - 1 + n) (length line) l))
+          (cases_lt (from.end - 1 + n) (length line))
+
+      not_led : by_byte i line old (from.end + n) ≡ false
+      not_led =
+          let some : from.low < from.end = from.some in
+          let e : from.end + n ≡ suc (from.end - 1 + n) = omega arith in
+          ap (by_byte i line old) e
+          ∙ and_right ((i.starred && by_byte i line old (from.end - 1 + n)) || reached old (from.end - 1 + n)) (byte_in i.set line (from.end - 1 + n)) no_byte
+
+      in_run : (p : ℕ) → from.low ≤ p → p < from.end + n → taken i line old p ≡ true
+      in_run p a b =
+          ⊎_elim
+          (λ (l : p < from.end). stays p a l)
+          (λ (l : from.end ≤ p).
+          let e : from.end + (p - from.end) ≡ p = omega arith in
+          or_left (by_byte i line old p) (i.starred && reached old p) (ap (by_byte i line old) (sym e) ∙ led_on (p - from.end) (omega arith)))
+          (cases_lt p from.end)
+
+      behind_run : (p : ℕ) → from.end + n ≤ p → taken i line old p ≡ false
+      behind_run p h =
+          let e : p - (from.end + n) + (from.end + n) ≡ p = omega arith in
+          taken_none i line old p
+          (ap (by_byte i line old) (sym e) ∙ beyond_none i line old (from.end + n) not_led (λ q l. outside_end q (omega arith)) (p - (from.end + n)))
+          (outside_end p (omega arith))
+
+      module _ (mid : List Bool) (size : ℕ) (width : size ≡ n) (long : length mid ≡ size) (full : (k : ℕ) → k < length mid → get_or mid k false ≡ true) where
+        abbrev grown : List Bool
+        grown = take from.end old ++ (mid ++ drop size (drop from.end old))
+
+        pub run_after : (p : ℕ) → reached grown p ≡ taken i line old p
+        run_after p =
+            ⊎_elim
+            (λ (l : p < from.low). let t = nothing p l in let o = outside_low p l in let s = from.some in let g : reached grown p ≡ reached old p = grind (arith, places) in g ∙ o ∙ sym t)
+            (λ (l : from.low ≤ p).
+            ⊎_elim
+            (λ (b : p < from.end). let g : reached grown p ≡ reached old p = grind (arith, places) in g ∙ spans.filled whole p l b ∙ sym (stays p l b))
+            (λ (b : from.end ≤ p).
+            ⊎_elim
+            (λ (c : p < from.end + n). let m = full (p - from.end) (omega arith) in let g : reached grown p ≡ true = grind (arith, places) in g ∙ sym (in_run p l c))
+            (λ (c : from.end + n ≤ p). let g : reached grown p ≡ reached old p = grind (arith, places) in g ∙ outside_end p b ∙ sym (behind_run p c))
+            (cases_lt p (from.end + n)))
+            (cases_lt p from.end))
+            (cases_lt p from.low)
+
+        pub run_spans : (r : Reach) → r.low ≡ from.low → r.end ≡ from.end + n → Spans grown r
+        run_spans r a b = record {
+          inside = λ p t.
               ⊎_elim
-              (λ (l : k < from.low). outside_low k l ∙ sym (nothing k l))
-              (λ (l : from.low ≤ k). spans.filled whole k l h ∙ sym (stays k l h))
-              (cases_lt k from.low);
-          todo = λ k h. refl;
-          found = record {
-            inside = λ k h t.
-                ⊎_elim
-                (λ (l : k < from.low). absurd (both_ways (taken i line old k) (nothing k l) t))
-                (λ (l : from.low ≤ k). (l, h))
-                (cases_lt k from.low);
-            top = stays (from.end - 1) (omega arith) (omega arith);
-            below = omega arith;
-            filled = λ s k a b. stays k a b;
-          };
+              (λ (l : p < from.low). absurd (both_ways (taken i line old p) (nothing p l) (sym (run_after p) ∙ t)))
+              (λ (l : from.low ≤ p).
+              ⊎_elim
+              (λ (c : p < from.end + n). (omega arith, omega arith))
+              (λ (c : from.end + n ≤ p). absurd (both_ways (taken i line old p) (behind_run p c) (sym (run_after p) ∙ t)))
+              (cases_lt p (from.end + n)))
+              (cases_lt p from.low);
+          top = (let s = r.some in let f = from.some in run_after (r.end - 1) ∙ in_run (r.end - 1) (omega arith) (omega arith));
+          filled = λ s p c d. run_after p ∙ in_run p (omega arith) (omega arith);
         }
 
   module _ (row : List Bool) (p : ℕ) (carry : Bool) (next : Option Reach) (half : Halfway i line old row p carry next) where

@@ -45,6 +45,20 @@ impl Reach {
         }
     }
 
+    // With this many places more right behind them.
+    fn with_run(self, more: usize) -> Reach
+        requires { self.end + more < 2 ^ 63 }
+        ensures low { result.low ≡ self.low }
+        ensures end { result.end ≡ self.end + more }
+        ensures count { result.count ≡ self.count + more }
+    {
+        Reach {
+            low: self.low,
+            end: self.end + more,
+            count: self.count + more,
+        }
+    }
+
     // Whether no place lies between them that is not reached.
     fn is_solid(self) -> bool
         ensures { result ≡ (self.low + self.count == self.end) }

@@ -47,6 +47,7 @@ fn first_match(pattern: &Pattern, line: &[u8], from: usize, row: &mut [bool]) ->
         line.len()
     };
     let mut start = from;
+    // The starts are no range: one at which nothing fits says which is tried next.
     while start <= last {
         if let Some(end) = longest_at(items, back, line, start, row) {
             return Some(Match { start, end });

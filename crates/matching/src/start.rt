@@ -1,32 +1,10 @@
 // Starts that need not be tried.
-ghost use Rattle.std.specs.Prelude.{◌≡◌, ℕ, ◌+◌, ◌<◌, ◌≤◌, Bool, true, false, map, length, None, slice_index};
+ghost use Rattle.std.specs.Prelude.{◌≡◌, ℕ, ◌+◌, ◌<◌, ◌≤◌, Bool, map, length, None};
 ghost use Rattle.matching.specs.Rows.{longest_end};
-ghost use Rattle.patterns.specs.Sets.{has};
-ghost use Rattle.patterns.specs.View.{members, item_of};
+ghost use Rattle.patterns.specs.View.{item_of};
 
-use patterns::{ByteSet, Item};
-
-// How many bytes of the set stand at the front.
-fn inside(set: &ByteSet, bytes: &[u8]) -> usize
-    ensures few { result ≤ length bytes.now }
-    ensures run { (k : ℕ) → k < result → has (members set.now) (slice_index bytes.now k) ≡ true }
-{
-    bytes
-        .iter()
-        .position(|byte| !set.has(*byte))
-        .unwrap_or(bytes.len())
-}
-
-// How many bytes stand in front of the first of the set.
-fn outside(set: &ByteSet, bytes: &[u8]) -> usize
-    ensures few { result ≤ length bytes.now }
-    ensures run { (k : ℕ) → k < result → has (members set.now) (slice_index bytes.now k) ≡ false }
-{
-    bytes
-        .iter()
-        .position(|byte| set.has(*byte))
-        .unwrap_or(bytes.len())
-}
+use crate::runs::{inside, outside};
+use patterns::Item;
 
 // A start behind one that does not fit, such that none between them fits either: what fits behind a byte that a starred first
 // item takes also fits with that byte, and an unstarred one wants a byte of its set.

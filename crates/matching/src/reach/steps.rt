@@ -1,42 +1,16 @@
 // The places that one item more reaches, as flags in a row.
-ghost use Rattle.std.specs.Prelude.{◌≡◌, ℕ, ◌+◌, ◌-◌, ◌^◌, ◌<◌, ◌≤◌, true, false, ◌&&◌, length, IfSome, MatchOption, Some, None, if◌then◌else◌, ◌==◌};
+ghost use Rattle.std.specs.Prelude.{◌≡◌, ℕ, ◌+◌, ◌-◌, ◌^◌, ◌<◌, ◌≤◌, true, false, ◌&&◌, length, IfSome, MatchOption, ◌==◌};
 ghost use Rattle.matching.specs.Rows.{reached, byte_in, taken, Spans, NoneReached};
 ghost use Rattle.patterns.specs.View.{members, item_of};
 
 use super::Reach;
+use crate::runs::inside;
 use patterns::{ByteSet, Item};
 
 fn byte_in(set: &ByteSet, line: &[u8], place: usize) -> bool
     ensures { result ≡ byte_in (members set.now) line.now place }
 {
     place < line.len() && set.has(line[place])
-}
-
-// How far a row is gone through: the places below `place` are done, `next` tells which of those are reached now, and
-// `led` whether a byte leads to `place`.
-#[derive(Clone, Copy)]
-struct Walk {
-    next: Option<Reach>,
-    place: usize,
-    led: bool,
-}
-
-// Where to begin with an item. A starred one leaves all that is reached, so where that is solid only its end counts.
-fn begin(reach: Reach, item: &Item, line: &[u8]) -> Walk
-    ensures { result ≡ (if item.now.starred && (reach.low + reach.count == reach.end) then (record { next = Some reach; place = reach.end; led = byte_in (members item.now.set) line.now (reach.end - 1) }) else (record { next = None; place = reach.low; led = false })) }
-{
-    if item.starred && reach.is_solid() {
-        return Walk {
-            next: Some(reach),
-            place: reach.end,
-            led: byte_in(&item.set, line, reach.end - 1),
-        };
-    }
-    Walk {
-        next: None,
-        place: reach.low,
-        led: false,
-    }
 }
 
 // What is reached with a place that lies behind all that was.
@@ -60,11 +34,13 @@ pub fn advance(row: &mut [bool], reach: Reach, item: &Item, line: &[u8]) -> Opti
     ensures spans { MatchOption result (NoneReached row.new) (λ r. Spans row.new r) }
     ensures within { IfSome result (λ r. r.end ≤ length line.now + 1) }
 {
-    let Walk {
-        mut next,
-        mut place,
-        mut led,
-    } = begin(reach, item, line);
+    if item.starred && reach.is_solid() {
+        return Some(run_on(row, reach, &item.set, line));
+    }
+    let mut next = None;
+    let mut place = reach.low;
+    let mut led = false;
+    // The places are no range: whether one more has its turn, the one in front of it says.
     while place < reach.end || led {
         let before = row[place];
         let here = led | (item.starred & before);
@@ -75,6 +51,22 @@ pub fn advance(row: &mut [bool], reach: Reach, item: &Item, line: &[u8]) -> Opti
         led = ((item.starred & led) | before) & byte_in(&item.set, line, place);
         place += 1;
     }
+    next
+}
+
+// A starred item leaves all that is reached. Where that is solid, it also reaches the places along a run of its bytes behind it.
+fn run_on(row: &mut [bool], reach: Reach, set: &ByteSet, line: &[u8]) -> Reach
+    requires spans { Spans row.old reach }
+    requires solid { reach.low + reach.count ≡ reach.end }
+    requires within { reach.end ≤ length line.now + 1 }
+    requires long { length line.now < length row.old }
+    ensures after { (p : ℕ) → reached row.new p ≡ taken (record { set = members set.now; starred = true }) line.now row.old p }
+    ensures spans { Spans row.new result }
+    ensures within { result.end ≤ length line.now + 1 }
+{
+    let more = inside(set, &line[reach.end - 1..]);
+    let next = reach.with_run(more);
+    row[reach.end..next.end].fill(true);
     next
 }
 

@@ -1,31 +1,13 @@
-use Rattle.std.proofs.Common.{◌≡◌, ◌+◌, ◌-◌, ◌≤◌, true, false, ◌&&◌, eqb, length, Some, None, Option, sym, ◌∙◌, subst, ⊎_elim, arith}
-use Rattle.std.proofs.lemmas.Bool.{cases_Bool, and_parts, eqb-true, cond-true, cond-false}
+use Rattle.std.proofs.Common.{◌+◌, ◌≤◌, length, Option, sym, subst, arith}
 use Rattle.matching.specs.declared.reach.Reach.{Reach}
-use Rattle.matching.specs.declared.reach.steps.Walk.{Walk}
-use Rattle.matching.specs.Rows.{byte_in}
 use Rattle.patterns.specs.View.{item_of}
-use Rattle.matching.proofs.Rows.{Halfway, ReachedBelow, ends_below, half_begun, half_kept, half_on, below_missed, below_hit, half_over, half_spans}
+use Rattle.matching.proofs.Rows.{ReachedBelow, ends_below, half_begun, half_on, below_missed, below_hit, half_over, half_spans}
 use Rattle.matching.proofs.reach.steps.advance.Goals as goal
 use Rattle.matching.proofs.reach.steps.advance.Goals.{then-place-reach, else-place-reach+then-led, then-here, else-here}
 
 pub loop-place-init : goal.loop-place-init
 loop-place-init c =
-    let i = item_of c.args.item.now in
-    let line = c.args.line.now in
-    let old = c.args.row.now in
-    let reach = c.args.reach in
-    let half : Walk → Type 0 = λ w. Halfway i line old old w.place w.led w.next in
-    let kept : Walk = record { next = Some reach; place = reach.end; led = byte_in i.set line (reach.end - 1) } in
-    let fresh : Walk = record { next = None; place = reach.low; led = false } in
-    ⊎_elim
-    (λ (t : (i.starred && eqb (reach.low + reach.count) reach.end) ≡ true).
-    let q = and_parts i.starred (eqb (reach.low + reach.count) reach.end) t in
-    subst half (sym (c.begin-next.ensures ∙ cond-true (i.starred && eqb (reach.low + reach.count) reach.end) kept fresh t))
-    (half_kept i line old reach c.requires.spans c.requires.within c.requires.long q.0 (eqb-true (reach.low + reach.count) reach.end q.1)))
-    (λ (t : (i.starred && eqb (reach.low + reach.count) reach.end) ≡ false).
-    subst half (sym (c.begin-next.ensures ∙ cond-false (i.starred && eqb (reach.low + reach.count) reach.end) kept fresh t))
-    (half_begun i line old reach c.requires.spans c.requires.within c.requires.long))
-    (cases_Bool (i.starred && eqb (reach.low + reach.count) reach.end))
+    half_begun (item_of c.args.item.now) c.args.line.now c.args.row.now c.args.reach c.requires.spans c.requires.within c.requires.long
 
 pub extended-requires-clause-behind : goal.extended-requires-clause-behind
 extended-requires-clause-behind c =

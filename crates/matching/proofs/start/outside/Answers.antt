@@ -1,6 +1,0 @@
-use Rattle.std.proofs.Common.{rules}
-use Rattle.std.proofs.iter.runs.Made.{chains}
-use Rattle.matching.proofs.start.outside.Goals as goal
-
-pub returns : goal.returns
-returns c = record { few = search (rules, chains); run = search (rules, chains) }
