@@ -9,9 +9,10 @@ use Rattle.patterns.specs.Sets.{Set, has}
 use Rattle.patterns.specs.Items.{Bytes, Item}
 use Rattle.matching.specs.Fitting.{Within, Piece, Pieces, joined, Fits}
 use Rattle.matching.specs.Matching.{longest_run}
+use Rattle.matching.specs.declared.reach.Reach.{Reach}
 use Rattle.matching.specs.Rows.{reached, byte_in, by_byte, taken, Spans, NoneReached, longest_end}
 use Rattle.matching.proofs.Fitted.{IsBest, best_one, Head, longest_right}
-use Rattle.matching.proofs.Rows.{not-reached, taken_none, below_none}
+use Rattle.matching.proofs.Rows.{taken_none, below_none}
 
 -- a list from its end
 snoc : (bs : Bytes) → (bs ≡ []) ⊎ ((cs : Bytes) × (x : ℕ) × (bs ≡ cs ++ x ∷ []))
@@ -207,15 +208,15 @@ row_start line s row none l m p =
     ))
     (cases_eq p s)
 
-pub span_start : (s : ℕ) (row : List Bool) → NoneReached row → s < length row → Spans (set row s true) s (s + 1) true
-span_start s row none m = record {
+pub span_start : (s : ℕ) (row : List Bool) → NoneReached row → s < length row → (r : Reach) → r.low ≡ s → r.end ≡ s + 1 → Spans (set row s true) r
+span_start s row none m r a b = record {
   inside = λ p t.
       ⊎_elim
       (λ (e : p ≡ s). (omega arith, omega arith))
       (λ (n : p ≡ s → ⊥). absurd (both_ways (reached row p) (none p) (sym (get_or-set_other row s p true false n) ∙ t)))
       (cases_eq p s);
-  top = λ h. (let e : s + 1 - 1 ≡ s = omega arith in ap (reached (set row s true)) e ∙ get_or-set_same row s true false m);
-  filled = λ f p a b. (let e : p ≡ s = omega arith in ap (reached (set row s true)) e ∙ get_or-set_same row s true false m);
+  top = (let e : r.end - 1 ≡ s = omega arith in ap (reached (set row s true)) e ∙ get_or-set_same row s true false m);
+  filled = λ f p x y. (let e : p ≡ s = omega arith in ap (reached (set row s true)) e ∙ get_or-set_same row s true false m);
 }
 
 -- where nothing is reached, more items reach nothing
@@ -224,9 +225,6 @@ row_stuck line s row none is [] says = subst (λ xs. Row xs line s row) (sym (ap
 row_stuck line s row none is (j ∷ js) says =
     subst (λ xs. Row xs line s row) (append_assoc is (j ∷ []) js)
     (row_stuck line s row none (is ++ j ∷ []) js (row_step j is line s row says row (λ p. none p ∙ sym (taken_none j line row p (below_none j line row p (λ q h. none q) p (omega arith)) (none p)))))
-
-pub span_none : (row : List Bool) (low : ℕ) (solid : Bool) → Spans row low 0 solid → NoneReached row
-span_none row low solid spans p = not-reached (reached row p) (λ t. (let q = spans.inside p t in omega arith))
 
 -- the ends that count, and the greatest of them
 abbrev pub Ending : List Item → Bool → Bytes → ℕ → ℕ → Type 0
@@ -262,16 +260,18 @@ module _ (is : List Item) (back : Bool) (line : Bytes) (s : ℕ) (inside : s ≤
     pub nowhere : NoneReached row → None ≡ longest_end is back line s
     nowhere none = longest_is None (λ e r. both_ways (reached row e) (none e) ((says e).1 r.0))
 
-    module _ (low end : ℕ) (solid : Bool) (spans : Spans row low end solid) (some : 0 < end) where
+    module _ (r : Reach) (spans : Spans row r) where
       -- the end anchor is not met
-      pub short_of_end : back ≡ true → end ≤ length line → None ≡ longest_end is back line s
-      short_of_end t l = longest_is None (λ e r. (let q = spans.inside e ((says e).1 r.0) in let z = r.1 t in omega arith))
+      pub short_of_end : back ≡ true → r.end ≤ length line → None ≡ longest_end is back line s
+      short_of_end t l = longest_is None (λ e f. (let q = spans.inside e ((says e).1 f.0) in let z = f.1 t in omega arith))
 
-      pub highest : (back ≡ false) ⊎ (length line < end) → end ≤ length line + 1 → Some (end - 1) ≡ longest_end is back line s
-      highest o w = longest_is (Some (end - 1)) (
-        (
-          (says (end - 1)).0 (spans.top some),
-          λ t. ⊎_elim (λ (f : back ≡ false). absurd (both_ways back f t)) (λ (l : length line < end). omega arith) o,
-        ),
-        λ e r. (let q = spans.inside e ((says e).1 r.0) in omega arith),
-      )
+      pub highest : (back ≡ false) ⊎ (length line < r.end) → r.end ≤ length line + 1 → Some (r.end - 1) ≡ longest_end is back line s
+      highest o w =
+          let some : r.low < r.end = r.some in
+          longest_is (Some (r.end - 1)) (
+            (
+              (says (r.end - 1)).0 spans.top,
+              λ t. ⊎_elim (λ (f : back ≡ false). absurd (both_ways back f t)) (λ (l : length line < r.end). omega arith) o,
+            ),
+            λ e f. (let q = spans.inside e ((says e).1 f.0) in omega arith),
+          )

@@ -1,7 +1,7 @@
 -- Starts at which nothing fits, and how a search goes past them.
 use Rattle.std.proofs.Common.{◌≡◌, ℕ, zero, suc, ◌+◌, ◌-◌, ◌<◌, ◌≤◌, Bool, true, false, List, [], ◌∷◌, map, length, get_or, drop, Some, None, Option, sym, refl, ap, ◌∙◌, ⊎_elim, add-zero, arith}
 use Rattle.std.specs.Option.{option_map}
-use Rattle.std.proofs.lemmas.List.{drop_more}
+use Rattle.std.proofs.lemmas.List.{drop_more, get_or-drop}
 use Rattle.std.proofs.lemmas.Bool.{cases_lt, cases_eq}
 use Rattle.patterns.specs.declared.pattern.Item.{Item as ItemCode}
 use Rattle.patterns.specs.Sets.{has}
@@ -48,24 +48,24 @@ module _ (i : Item) (is : List Item) (back : Bool) (line : Bytes) where
   starred_on star s l h e =
       none_behind star (get_or line s 0) (drop (s + 1) line) h (ap (longest_run (i ∷ is) back) (sym (drop_more line s 0 l)) ∙ e)
 
-  starred-run : i.starred ≡ true → (start n : ℕ) → start + n ≤ length line → ((t : ℕ) → start ≤ t → t < start + n → has i.set (get_or line t 0) ≡ true)
+  starred-run : i.starred ≡ true → (start n : ℕ) → start + n ≤ length line → ((k : ℕ) → k < n → has i.set (get_or (drop start line) k 0) ≡ true)
       → longest_run (i ∷ is) back (drop start line) ≡ None → longest_run (i ∷ is) back (drop (start + n) line) ≡ None
   starred-run star start zero l h e = ap (λ k. longest_run (i ∷ is) back (drop k line)) (add-zero start) ∙ e
   starred-run star start (suc n) l h e =
       let step : start + suc n ≡ start + n + 1 = omega arith in
       ap (λ k. longest_run (i ∷ is) back (drop k line)) step
-      ∙ starred_on star (start + n) (omega arith) (h (start + n) (omega arith) (omega arith))
-      (starred-run star start n (omega arith) (λ t a b. h t a (omega arith)) e)
+      ∙ starred_on star (start + n) (omega arith) (simp get_or-drop at (h n (omega arith)))
+      (starred-run star start n (omega arith) (λ k a. h k (omega arith)) e)
 
-  -- a starred first item: none of the starts along the bytes of its set, and none right behind them
-  pub starred_hopeless : i.starred ≡ true → (start r : ℕ) → r ≤ length line
-      → ((t : ℕ) → start ≤ t → t < r → has i.set (get_or line t 0) ≡ true)
-      → longest_end (i ∷ is) back line start ≡ None → (s : ℕ) → start ≤ s → s < r + 1 → longest_end (i ∷ is) back line s ≡ None
-  starred_hopeless star start r l h e s a b =
+  -- a starred first item: none of the starts along n bytes of its set, and none right behind them
+  pub starred_hopeless : i.starred ≡ true → (start n : ℕ) → start + n ≤ length line
+      → ((k : ℕ) → k < n → has i.set (get_or (drop start line) k 0) ≡ true)
+      → longest_end (i ∷ is) back line start ≡ None → (s : ℕ) → start ≤ s → s < start + 1 + n → longest_end (i ∷ is) back line s ≡ None
+  starred_hopeless star start n l h e s a b =
       let k : start + (s - start) ≡ s = omega arith in
       ap (option_map (λ n. s + n))
       (ap (λ n. longest_run (i ∷ is) back (drop n line)) (sym k)
-      ∙ starred-run star start (s - start) (omega arith) (λ t x y. h t x (omega arith)) (none-size start (longest_run (i ∷ is) back (drop start line)) e))
+      ∙ starred-run star start (s - start) (omega arith) (λ t x. h t (omega arith)) (none-size start (longest_run (i ∷ is) back (drop start line)) e))
 
   -- an unstarred one: no start without a byte of its set
   once_none : i.starred ≡ false → (s : ℕ) → s < length line → has i.set (get_or line s 0) ≡ false → longest_end (i ∷ is) back line s ≡ None
@@ -75,13 +75,16 @@ module _ (i : Item) (is : List Item) (back : Bool) (line : Bytes) where
       ∙ run-once plain (get_or line s 0 ∷ drop (s + 1) line)
       ∙ ap (λ t. elim t as (λ _. Option ℕ) [ true ↦ further (longest_run is back (drop (s + 1) line)) | false ↦ None ]) h)
 
-  pub once_hopeless : i.starred ≡ false → (start r : ℕ) → r ≤ length line
-      → ((t : ℕ) → start + 1 ≤ t → t < r → has i.set (get_or line t 0) ≡ false)
-      → longest_end (i ∷ is) back line start ≡ None → (s : ℕ) → start ≤ s → s < r → longest_end (i ∷ is) back line s ≡ None
-  once_hopeless plain start r l h e s a b =
+  pub once_hopeless : i.starred ≡ false → (start n : ℕ) → start + 1 + n ≤ length line
+      → ((k : ℕ) → k < n → has i.set (get_or (drop (start + 1) line) k 0) ≡ false)
+      → longest_end (i ∷ is) back line start ≡ None → (s : ℕ) → start ≤ s → s < start + 1 + n → longest_end (i ∷ is) back line s ≡ None
+  once_hopeless plain start n l h e s a b =
       ⊎_elim
       (λ (q : s ≡ start). ap (λ n. longest_end (i ∷ is) back line n) q ∙ e)
-      (λ (q : s ≡ start → ⊥). once_none plain s (omega arith) (h s (omega arith) b))
+      (λ (q : s ≡ start → ⊥).
+      let k : start + 1 + (s - (start + 1)) ≡ s = omega arith in
+      let there = simp get_or-drop at (h (s - (start + 1)) (omega arith)) in
+      once_none plain s (omega arith) (ap (λ t. has i.set (get_or line t 0)) (sym k) ∙ there))
       (cases_eq s start)
 
 -- a search goes on past the starts at which nothing fits

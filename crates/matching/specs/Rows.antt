@@ -4,6 +4,7 @@ use Rattle.std.specs.Prelude.{◌≡◌, ℕ, zero, suc, ◌+◌, ◌-◌, ◌<�
 use Rattle.std.specs.Option.{option_map}
 use Rattle.patterns.specs.Sets.{Set, has}
 use Rattle.patterns.specs.Items.{Bytes, Item}
+use Rattle.matching.specs.declared.reach.Reach.{Reach}
 use Rattle.matching.specs.Matching.{longest_run}
 
 abbrev pub reached : List Bool → ℕ → Bool
@@ -21,12 +22,11 @@ by_byte i line row (suc p) = ((i.starred && by_byte i line row p) || reached row
 abbrev pub taken : Item → Bytes → List Bool → ℕ → Bool
 taken i line row p = by_byte i line row p || (i.starred && reached row p)
 
--- The places reached lie from `low` on and below `end`, which stands right behind the highest, or is 0 if there is none.
--- If `solid`, all of those are reached.
-pub record Spans (row : List Bool) (low end : ℕ) (solid : Bool) : Type 0 where
-  pub inside : (p : ℕ) → reached row p ≡ true → (low ≤ p) × (p < end)
-  pub top : 0 < end → reached row (end - 1) ≡ true
-  pub filled : solid ≡ true → (p : ℕ) → low ≤ p → p < end → reached row p ≡ true
+-- The places reached: from `low` on and below `end`, which stands right behind the highest. If they are as many, all of those are reached.
+pub record Spans (row : List Bool) (r : Reach) : Type 0 where
+  pub inside : (p : ℕ) → reached row p ≡ true → (r.low ≤ p) × (p < r.end)
+  pub top : reached row (r.end - 1) ≡ true
+  pub filled : r.low + r.count ≡ r.end → (p : ℕ) → r.low ≤ p → p < r.end → reached row p ≡ true
 
 abbrev pub NoneReached : List Bool → Type 0
 NoneReached row = (p : ℕ) → reached row p ≡ false

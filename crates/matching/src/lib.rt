@@ -3,6 +3,7 @@
 
 mod answer;
 mod reach;
+mod runs;
 mod search;
 mod start;
 

@@ -1,113 +1,68 @@
-// The places of a line that the items so far reach from a start, as flags in a row.
-ghost use Rattle.std.specs.Prelude.{◌≡◌, ℕ, ◌+◌, ◌-◌, ◌^◌, ◌<◌, ◌≤◌, Bool, true, false, ◌&&◌, eqb, length, if◌then◌else◌, ◌==◌};
-ghost use Rattle.matching.specs.Rows.{reached, byte_in, taken, Spans, NoneReached};
-ghost use Rattle.patterns.specs.View.{members, item_of};
+// Which places of a line the items so far reach from a start.
+ghost use Rattle.std.specs.Prelude.{◌≡◌, ◌+◌, ◌^◌, ◌<◌, ◌≤◌, ◌==◌};
 
-use patterns::{ByteSet, Item};
+mod steps;
 
-// Where the places reached lie: from `low` on and below `end`, which stands right behind the highest, or is 0 if there is none.
-// If `solid`, all of those are reached.
+pub use steps::{advance, clear};
+
+// The places reached: `count` of those from `low` on and below `end`, which stands right behind the highest.
 #[derive(Clone, Copy)]
 pub struct Reach {
     pub low: usize,
     pub end: usize,
-    pub solid: bool,
+    pub count: usize,
+    ghost some: { low < end },
+    ghost few: { low + count ≤ end },
 }
 
 impl Reach {
+    // One place by itself.
+    pub fn at(place: usize) -> Reach
+        requires { place < 2 ^ 63 }
+        ensures low { result.low ≡ place }
+        ensures end { result.end ≡ place + 1 }
+        ensures count { result.count ≡ 1 }
+    {
+        Reach {
+            low: place,
+            end: place + 1,
+            count: 1,
+        }
+    }
+
     // With a place that lies behind them all.
     fn with(self, place: usize) -> Reach
-        requires { place < 2 ^ 63 }
-        ensures { result ≡ (if eqb self.end 0 then (record { low = place; end = place + 1; solid = true }) else (record { low = self.low; end = place + 1; solid = self.solid && (place == self.end) })) }
+        requires behind { self.end ≤ place }
+        requires fits { place < 2 ^ 63 }
+        ensures low { result.low ≡ self.low }
+        ensures end { result.end ≡ place + 1 }
+        ensures count { result.count ≡ self.count + 1 }
     {
-        if self.end == 0 {
-            return Reach {
-                low: place,
-                end: place + 1,
-                solid: true,
-            };
-        }
         Reach {
             low: self.low,
             end: place + 1,
-            solid: self.solid & (place == self.end),
+            count: self.count + 1,
         }
     }
-}
 
-fn byte_in(set: &ByteSet, line: &[u8], place: usize) -> bool
-    ensures { result ≡ byte_in (members set.now) line.now place }
-{
-    place < line.len() && set.has(line[place])
-}
-
-// How far a row is gone through: the places below `place` are done, `next` tells where those lie that are reached now, and
-// `led` whether a byte leads to `place`.
-#[derive(Clone, Copy)]
-struct Walk {
-    next: Reach,
-    place: usize,
-    led: bool,
-}
-
-// Where to begin with an item. A starred one leaves all that is reached, so where that is solid only its end counts.
-fn begin(reach: Reach, item: &Item, line: &[u8]) -> Walk
-    requires { 0 < reach.end }
-    ensures { result ≡ (if item.now.starred && reach.solid then (record { next = reach; place = reach.end; led = byte_in (members item.now.set) line.now (reach.end - 1) }) else (record { next = record { low = reach.low; end = 0; solid = true }; place = reach.low; led = false })) }
-{
-    if item.starred && reach.solid {
-        let led = byte_in(&item.set, line, reach.end - 1);
-        return Walk {
-            next: reach,
-            place: reach.end,
-            led,
-        };
-    }
-    Walk {
-        next: Reach {
-            low: reach.low,
-            end: 0,
-            solid: true,
-        },
-        place: reach.low,
-        led: false,
-    }
-}
-
-// Takes one item more: marks in the row the places that are reached now, and answers where they lie.
-pub fn advance(row: &mut [bool], reach: Reach, item: &Item, line: &[u8]) -> Reach
-    requires spans { Spans row.old reach.low reach.end reach.solid }
-    requires some { 0 < reach.end }
-    requires within { reach.end ≤ length line.now + 1 }
-    requires long { length line.now < length row.old }
-    ensures after { (p : ℕ) → reached row.new p ≡ taken (item_of item.now) line.now row.old p }
-    ensures spans { Spans row.new result.low result.end result.solid }
-    ensures within { result.end ≤ length line.now + 1 }
-{
-    let Walk {
-        mut next,
-        mut place,
-        mut led,
-    } = begin(reach, item, line);
-    while place < reach.end || led {
-        let before = row[place];
-        let here = led | (item.starred & before);
-        row[place] = here;
-        if here {
-            next = next.with(place);
+    // With this many places more right behind them.
+    fn with_run(self, more: usize) -> Reach
+        requires { self.end + more < 2 ^ 63 }
+        ensures low { result.low ≡ self.low }
+        ensures end { result.end ≡ self.end + more }
+        ensures count { result.count ≡ self.count + more }
+    {
+        Reach {
+            low: self.low,
+            end: self.end + more,
+            count: self.count + more,
         }
-        led = ((item.starred & led) | before) & byte_in(&item.set, line, place);
-        place += 1;
     }
-    next
-}
 
-pub fn clear(row: &mut [bool], reach: Reach)
-    requires spans { Spans row.old reach.low reach.end reach.solid }
-    requires within { reach.end ≤ length row.old }
-    ensures { NoneReached row.new }
-{
-    for place in reach.low..reach.end {
-        row[place] = false;
+    // Whether no place lies between them that is not reached.
+    fn is_solid(self) -> bool
+        ensures { result ≡ (self.low + self.count == self.end) }
+    {
+        self.low + self.count == self.end
     }
 }

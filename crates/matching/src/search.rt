@@ -25,15 +25,8 @@ pub fn find(pattern: &Pattern, line: &[u8], from: usize) -> Result<Option<Match>
     if line.len() > LINE_MAX {
         return Err(MatchFault::LongLine);
     }
-    let mut row = clear_row();
+    let mut row = [false; PLACES];
     Ok(first_match(pattern, line, from, &mut row))
-}
-
-fn clear_row() -> [bool; PLACES]
-    ensures clear { NoneReached result }
-    ensures long { length result ≡ 256 }
-{
-    [false; PLACES]
 }
 
 // The same with a row that is clear and long enough.
@@ -54,6 +47,7 @@ fn first_match(pattern: &Pattern, line: &[u8], from: usize, row: &mut [bool]) ->
         line.len()
     };
     let mut start = from;
+    // The starts are no range: one at which nothing fits says which is tried next.
     while start <= last {
         if let Some(end) = longest_at(items, back, line, start, row) {
             return Some(Match { start, end });
@@ -78,16 +72,9 @@ fn longest_at(
     ensures clear { IfNone result (NoneReached row.new) }
 {
     row[start] = true;
-    let mut reach = Reach {
-        low: start,
-        end: start + 1,
-        solid: true,
-    };
+    let mut reach = Reach::at(start);
     for item in items {
-        reach = advance(row, reach, item, line);
-        if reach.end == 0 {
-            return None;
-        }
+        reach = advance(row, reach, item, line)?;
     }
     if back && reach.end <= line.len() {
         clear(row, reach);

@@ -22,8 +22,8 @@ static EVENTS: [&[u8]; 4] = [
 // `x*` sixty times.
 fn starred_items() -> [u8; 2 * STARRED] {
     let mut part = [b'x'; 2 * STARRED];
-    for item in 0..STARRED {
-        part[2 * item + 1] = b'*';
+    for star in part.iter_mut().skip(1).step_by(2) {
+        *star = b'*';
     }
     part
 }
@@ -59,9 +59,7 @@ fn measure(
     repeats: u32,
     timed: bool,
 ) -> anyhow::Result<()> {
-    let Ok(pattern) = Pattern::read(b'/', part) else {
-        return Err(anyhow!("bad pattern"));
-    };
+    let pattern = Pattern::read(b'/', part).map_err(|_fault| anyhow!("bad pattern"))?;
     let start = Instant::now(rt)?;
     let tally = search_all(&pattern, lines, repeats);
     let nanos = start.elapsed(rt)?.as_nanos();
@@ -79,28 +77,21 @@ fn measure(
 fn main(rt: HostRuntime) -> anyhow::Result<()> {
     let mut args = env::args(&rt)?;
     let _program = args.next();
-    let Some(count) = args.next() else {
-        return Err(anyhow!("usage: patterns_bench REPEATS [time]"));
-    };
+    let count = args
+        .next()
+        .ok_or_else(|| anyhow!("usage: patterns_bench REPEATS [time]"))?;
     let repeats = count.as_str().parse::<u32>()?;
     let timed = args.next().is_some();
     let equal: [&[u8]; 1] = [&[b'x'; LINE]];
-    measure(
-        &rt,
-        "60 starred items on 255 equal bytes",
-        &starred_items(),
-        &equal,
-        repeats,
-        timed,
-    )?;
-    measure(&rt, "x*x*x*y on 255 x", b"x*x*x*y", &equal, repeats, timed)?;
-    measure(&rt, "a plain word", b"batteries", &EVENTS, repeats, timed)?;
-    measure(
-        &rt,
-        "a bracket set with star",
-        b"[a-z][a-z]*,",
-        &EVENTS,
-        repeats,
-        timed,
-    )
+    let starred = starred_items();
+    let searches: [(&str, &[u8], &[&[u8]]); 4] = [
+        ("60 starred items on 255 equal bytes", &starred, &equal),
+        ("x*x*x*y on 255 x", b"x*x*x*y", &equal),
+        ("a plain word", b"batteries", &EVENTS),
+        ("a bracket set with star", b"[a-z][a-z]*,", &EVENTS),
+    ];
+    for (name, part, lines) in searches {
+        measure(&rt, name, part, lines, repeats, timed)?;
+    }
+    Ok(())
 }

@@ -127,10 +127,7 @@ fn finds_the_first_longest(rt: HostRuntime) -> Result<(), Fail> {
     for (case, row) in SEARCHED.iter().enumerate() {
         let (part, line, from, expected) = *row;
         let pattern = Pattern::read(b'/', part)?;
-        let found = match find(&pattern, line, from)? {
-            Some(found) => Some((found.start, found.end)),
-            None => None,
-        };
+        let found = find(&pattern, line, from)?.map(|found| (found.start, found.end));
         assert_eq!(rt; (case, found), (case, expected));
     }
     Ok(())

@@ -42,15 +42,6 @@ static TAKEN: [(u8, &[u8], bool, &[u8]); 36] = [
     (b'/', b"[aa]", false, b"a"),
 ];
 
-fn listed(bytes: &[u8], byte: u8) -> bool {
-    for b in bytes {
-        if *b == byte {
-            return true;
-        }
-    }
-    false
-}
-
 #[test]
 fn takes_exactly_these(rt: HostRuntime) -> Result<(), Fail> {
     for (case, row) in TAKEN.iter().enumerate() {
@@ -60,7 +51,7 @@ fn takes_exactly_these(rt: HostRuntime) -> Result<(), Fail> {
             return Err(Fail::new("a pattern without an item"));
         };
         for byte in 0..=u8::MAX {
-            let wanted = listed(bytes, byte) != outside;
+            let wanted = bytes.contains(&byte) != outside;
             assert_eq!(rt; (case, byte, first.set.has(byte)), (case, byte, wanted));
         }
     }

@@ -1,0 +1,6 @@
+use Rattle.std.proofs.Common.{rules}
+use Rattle.std.proofs.iter.runs.Made.{chains}
+use Rattle.matching.proofs.runs.outside.Goals as goal
+
+pub returns : goal.returns
+returns c = record { few = search (rules, chains); run = search (rules, chains) }
