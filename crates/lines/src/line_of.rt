@@ -5,7 +5,8 @@ ghost use Rattle.lines.specs.Store.{line_at};
 use crate::line::{LINE_MAX, LineText, Tag};
 use crate::store::LineStore;
 
-// A line that is there: a store, and the number of one of its lines. So nothing that it is asked is refused.
+// A line that is there: a store, and the number of one of its lines. So nothing that it is asked is refused. It borrows the store:
+// what changes a store takes the store and a number.
 #[derive(Drop)]
 pub struct LineOf<'a, T: LineStore> {
     pub store: &'a T,

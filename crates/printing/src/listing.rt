@@ -17,7 +17,12 @@ pub fn printed_size<T: LineStore>(text: &T, range: Range) -> usize
 {
     let mut size = 0;
     for i in range.first - 1..range.last {
-        size += line_size(text, i + 1);
+        size += LineOf {
+            store: text,
+            n: i + 1,
+        }
+        .len()
+            + 1;
     }
     size
 }
@@ -30,27 +35,24 @@ pub fn print_lines<T: LineStore>(text: &T, range: Range, sheet: &mut [u8], at: u
 {
     let mut place = at;
     for i in range.first - 1..range.last {
-        place = print_line(text, i + 1, sheet, place);
+        place = print_line(
+            &LineOf {
+                store: text,
+                n: i + 1,
+            },
+            sheet,
+            place,
+        );
     }
 }
 
-// How many bytes line `n` prints as.
-fn line_size<T: LineStore>(text: &T, n: usize) -> usize
-    requires { (1 ≤ n) × (n ≤ length (T.LineStore.meaning text.now).lines) }
-    ensures value { result ≡ length (line_at (T.LineStore.meaning text.now) n).text + 1 }
-    ensures bound { result ≤ 256 }
+// Prints a line with its break at a place of a sheet that has room for it, and answers the place behind it.
+fn print_line<T: LineStore>(line: &LineOf<'_, T>, sheet: &mut [u8], at: usize) -> usize
+    requires { at + (length (line_at (T.LineStore.meaning line.now.store.now) line.now.n).text + 1) ≤ length sheet.old }
+    ensures value { result ≡ at + (length (line_at (T.LineStore.meaning line.now.store.now) line.now.n).text + 1) }
+    ensures after { sheet.new ≡ written sheet.old at ((line_at (T.LineStore.meaning line.now.store.now) line.now.n).text ++ (10 ∷ [])) }
 {
-    LineOf { store: text, n }.len() + 1
-}
-
-// Prints line `n` with its break at a place of a sheet that has room for it, and answers the place behind it.
-fn print_line<T: LineStore>(text: &T, n: usize, sheet: &mut [u8], at: usize) -> usize
-    requires line { (1 ≤ n) × (n ≤ length (T.LineStore.meaning text.now).lines) }
-    requires room { at + (length (line_at (T.LineStore.meaning text.now) n).text + 1) ≤ length sheet.old }
-    ensures value { result ≡ at + (length (line_at (T.LineStore.meaning text.now) n).text + 1) }
-    ensures after { sheet.new ≡ written sheet.old at ((line_at (T.LineStore.meaning text.now) n).text ++ (10 ∷ [])) }
-{
-    let size = text.copy(n, &mut sheet[at..]).unwrap();
+    let size = line.store.copy(line.n, &mut sheet[at..]).unwrap();
     sheet[at + size] = LINE_BREAK;
     at + size + 1
 }

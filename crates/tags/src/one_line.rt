@@ -12,7 +12,7 @@ use lines::line::Tag;
 use lines::line_of::LineOf;
 use lines::store::LineStore;
 
-// Whether line `n` bears a mark.
+// Whether line `n` bears a mark. It takes a number, since a closure that made a `LineOf` of it would want a clause of its own.
 pub(crate) fn bears<T: LineStore>(text: &T, n: usize, mark: Mark) -> bool
     requires { (1 ≤ n) × (n ≤ length (T.LineStore.meaning text.now).lines) }
     ensures { result ≡ bearing (bit_of mark.letter) (T.LineStore.meaning text.now) n }

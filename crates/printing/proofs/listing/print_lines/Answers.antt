@@ -11,7 +11,7 @@ print_line-place-requires g c =
     let s = g.T.LineStore.meaning c.args.text.now in
     let all = ap length (left_range s c.args.range.first c.args.range.last (omega arith)) in
     let next = left_length s c.loop-i.i c.args.range.last (omega arith) (omega arith) in
-    record { line = (omega arith, omega arith); room = omega arith }
+    omega arith
 
 pub loop-i-preserved : goal.loop-i-preserved
 loop-i-preserved g c =
