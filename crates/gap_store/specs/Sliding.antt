@@ -12,7 +12,7 @@ pub record Slid (was : List Row) (f b p q end at : ℕ) (rows : List Row) (offse
   pub front : laid 0 (take at rows) offset ≡ true
   pub behind : laid (offset + (q - p)) (drop (at + (b - f)) rows) end ≡ true
 
--- the rows lie back to back on either side of their gap, and so does what they say of the bytes and theirs
+-- the rows lie back to back: in front of their gap from the first byte up to the gap in the bytes, behind it from there up to the last
 pub record Apart (rs : Gapped Row) (bs : Gapped ℕ) : Type 0 where
   pub front : laid 0 (take rs.start (vec_items rs.all)) bs.start ≡ true
   pub behind : laid bs.end (drop rs.end (vec_items rs.all)) (length (vec_items bs.all)) ≡ true
