@@ -1,7 +1,7 @@
 // Rows that lie back to back on either side of a gap, kept so where the gap moves.
 ghost use Rattle.std.specs.Prelude.{◌≡◌, ℕ, ◌+◌, ◌-◌, ◌^◌, ◌<◌, ◌≤◌, true, length, take, drop, if◌then◌else◌, nat_lt, slice_index_or};
 ghost use Rattle.gap_store.specs.Rows.{no_row, total, laid, relaid};
-ghost use Rattle.gap_store.specs.Sliding.{Slid};
+ghost use Rattle.gap_store.specs.Sliding.{Apart, Brought};
 
 use crate::gapped::Gapped;
 use crate::row::Row;
@@ -21,12 +21,8 @@ fn lay(rows: &mut [Row], start: usize)
 // Moves the gap in the rows to `at`, and answers the place where the gap in their bytes is then to start.
 pub fn slide(rows: &mut Gapped<Row>, bytes: &Gapped<u8>, at: usize) -> usize
     requires within { at ≤ rows.old.start + (length rows.old.all.items - rows.old.end) }
-    requires front { laid 0 (take rows.old.start rows.old.all.items) bytes.now.start ≡ true }
-    requires behind { laid bytes.now.end (drop rows.old.end rows.old.all.items) (length bytes.now.all.items) ≡ true }
-    ensures start { rows.new.start ≡ at }
-    ensures end { rows.new.end ≡ at + (rows.old.end - rows.old.start) }
-    ensures len { length rows.new.all.items ≡ length rows.old.all.items }
-    ensures slid { Slid rows.old.all.items rows.old.start rows.old.end bytes.now.start bytes.now.end (length bytes.now.all.items) at rows.new.all.items result }
+    requires apart { Apart rows.old bytes.now }
+    ensures { Brought rows.old rows.new bytes.now at result }
 {
     if at < rows.start {
         slide_down(rows, bytes, at)
@@ -38,12 +34,8 @@ pub fn slide(rows: &mut Gapped<Row>, bytes: &Gapped<u8>, at: usize) -> usize
 // The gap moves down: the rows between are laid up to where those behind the gap start.
 fn slide_down(rows: &mut Gapped<Row>, bytes: &Gapped<u8>, at: usize) -> usize
     requires within { at < rows.old.start }
-    requires front { laid 0 (take rows.old.start rows.old.all.items) bytes.now.start ≡ true }
-    requires behind { laid bytes.now.end (drop rows.old.end rows.old.all.items) (length bytes.now.all.items) ≡ true }
-    ensures start { rows.new.start ≡ at }
-    ensures end { rows.new.end ≡ at + (rows.old.end - rows.old.start) }
-    ensures len { length rows.new.all.items ≡ length rows.old.all.items }
-    ensures slid { Slid rows.old.all.items rows.old.start rows.old.end bytes.now.start bytes.now.end (length bytes.now.all.items) at rows.new.all.items result }
+    requires apart { Apart rows.old bytes.now }
+    ensures { Brought rows.old rows.new bytes.now at result }
 {
     let offset = rows.all[at].start;
     let from = at + (rows.end - rows.start);
@@ -56,12 +48,8 @@ fn slide_down(rows: &mut Gapped<Row>, bytes: &Gapped<u8>, at: usize) -> usize
 // The gap moves up: the rows between are laid from where those in front of the gap stop.
 fn slide_up(rows: &mut Gapped<Row>, bytes: &Gapped<u8>, at: usize) -> usize
     requires within { (rows.old.start ≤ at) × (at ≤ rows.old.start + (length rows.old.all.items - rows.old.end)) }
-    requires front { laid 0 (take rows.old.start rows.old.all.items) bytes.now.start ≡ true }
-    requires behind { laid bytes.now.end (drop rows.old.end rows.old.all.items) (length bytes.now.all.items) ≡ true }
-    ensures start { rows.new.start ≡ at }
-    ensures end { rows.new.end ≡ at + (rows.old.end - rows.old.start) }
-    ensures len { length rows.new.all.items ≡ length rows.old.all.items }
-    ensures slid { Slid rows.old.all.items rows.old.start rows.old.end bytes.now.start bytes.now.end (length bytes.now.all.items) at rows.new.all.items result }
+    requires apart { Apart rows.old bytes.now }
+    ensures { Brought rows.old rows.new bytes.now at result }
 {
     let from = rows.start;
     let stop = start_of(&rows.all, rows.end + (at - from), bytes.all.len());
