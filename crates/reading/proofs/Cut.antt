@@ -29,8 +29,8 @@ stepped d taken b bs t e = ap (step d taken b bs) e
 
 module _ (d : ℕ) (bs : Bytes) (taken : Bool) (at : ℕ)
     (inv : in_front (take at bs) (cut_at d taken (drop at bs)) ≡ cut_at d false bs) where
-  pub cut-ends : at < length bs → (eqb (get_or bs at 0) d && not taken) ≡ true → Ok (take at bs, drop (at + 1) bs) ≡ cut_at d false bs
-  cut-ends h e =
+  pub cut_ends : at < length bs → (eqb (get_or bs at 0) d && not taken) ≡ true → Ok (take at bs, drop (at + 1) bs) ≡ cut_at d false bs
+  cut_ends h e =
       ap (λ xs. Ok (xs, drop (at + 1) bs)) (sym (append-nil (take at bs)))
       ∙ ap (in_front (take at bs)) (sym (ap (cut_at d taken) (drop_more bs at 0 h) ∙ stepped d taken (get_or bs at 0) (drop (at + 1) bs) true e))
       ∙ inv

@@ -55,9 +55,9 @@ module _ (bs : Bytes) where
   number_none e = ap (λ t. judged t (digits_at 0 bs)) (ap is_some e ∙ sym (begins_some bs))
 
   module _ (v : ℕ) (rest : Bytes) (inv : digits_at v rest ≡ digits_at 0 bs) where
-    pub number-over : 65535 < v → Err BadAddress ≡ number_at bs
+    pub number_over : 65535 < v → Err BadAddress ≡ number_at bs
     unfolding number_at
-    number-over l =
+    number_over l =
         let r = digits_at 0 bs in
         let big : 65535 < r.0 = omega (arith, (grows v rest).0, ap (λ p. p.0) inv) in
         ap (λ t. when t BadAddress (Ok r)) (sym (and_right (begins is_digit bs) (leb r.0 65535) (lt-leb r.0 65535 big)))

@@ -10,11 +10,11 @@ use Rattle.reading.specs.Addresses.{number_at, is_sign, moved, offsets_at}
 abbrev step : ℕ → Address → ℕ → Bytes → Bool → Part Address
 step n a b bs t = elim t [ true ↦ number_at bs >>= λ r. offsets_at n (moved b r.0 a) r.1 | false ↦ Ok (a, b ∷ bs) ]
 
-pub offsets-over : (n : ℕ) (a : Address) (bs : Bytes) → begins is_sign bs ≡ false → Ok (a, bs) ≡ offsets_at n a bs
+pub offsets_over : (n : ℕ) (a : Address) (bs : Bytes) → begins is_sign bs ≡ false → Ok (a, bs) ≡ offsets_at n a bs
 unfolding offsets_at
-offsets-over zero a bs e = refl
-offsets-over (suc n) a [] e = refl
-offsets-over (suc n) a (b ∷ bs) e = ap (step n a b bs) (sym e)
+offsets_over zero a bs e = refl
+offsets_over (suc n) a [] e = refl
+offsets_over (suc n) a (b ∷ bs) e = ap (step n a b bs) (sym e)
 
 signed : (n : ℕ) (a : Address) (b : ℕ) (bs : Bytes) → is_sign b ≡ true
     → (number_at bs >>= λ r. offsets_at n (moved b r.0 a) r.1) ≡ offsets_at (suc n) a (b ∷ bs)
@@ -31,8 +31,8 @@ module _ (n : ℕ) (a : Address) (bs : Bytes) (h : length bs ≤ n) (b : ℕ) (b
       let some : n ≡ suc (n - 1) = omega (arith, ap length s.0) in
       signed (n - 1) a b behind s.1 ∙ ap (λ k. offsets_at k a (b ∷ behind)) (sym some) ∙ ap (offsets_at n a) (sym s.0)
 
-  pub offsets-refused : (f : Fault) → Err f ≡ number_at behind → Err f ≡ offsets_at n a bs
-  offsets-refused f e = ap (onward (n - 1)) e ∙ reads
+  pub offsets_refused : (f : Fault) → Err f ≡ number_at behind → Err f ≡ offsets_at n a bs
+  offsets_refused f e = ap (onward (n - 1)) e ∙ reads
 
   module _ (v : ℕ) (rest : Bytes) (e : Ok (v, rest) ≡ number_at behind) where
     pub offsets_ahead : b ≡ 43 → offsets_at (n - 1) (record { base = a.base; ahead = a.ahead + v; back = a.back }) rest ≡ offsets_at n a bs

@@ -71,6 +71,7 @@ impl<'a> Reader<'a> {
     }
 
     // A base and the offsets behind it. So few bytes keep the sums within 32 bits.
+    #[tactic(auto, using(crate::proofs::Offsets::offsets_over))]
     fn offsets(&mut self, base: Base<'a>) -> Result<Address<'a>, Fault>
         ensures { part_seen address_view result self.new.rest.now ≡ offsets_at (length self.old.rest.now) (only (base_view base.entry)) self.old.rest.now }
     {

@@ -11,6 +11,7 @@ const NUMBER_MAX: u32 = 65_535;
 
 impl Reader<'_> {
     // The number that the digits spell.
+    #[tactic(auto, using(crate::proofs::Digits::digits_first, crate::proofs::Digits::digits_on, crate::proofs::Digits::number_none, crate::proofs::Digits::number_is))]
     pub(super) fn number(&mut self) -> Result<u16, Fault>
         ensures value { part_seen (λ n. n) result self.new.rest.now ≡ number_at self.old.rest.now }
         ensures shorter { IfOk result (λ n. length self.new.rest.now < length self.old.rest.now) }

@@ -11,6 +11,7 @@ use patterns::Pattern;
 
 impl<'a> Reader<'a> {
     // The part up to the delimiter, which is passed too. A `\` takes the byte behind it along.
+    #[tactic(auto, using(crate::proofs::Cut::cut_ends, crate::proofs::Cut::cut_on, crate::proofs::Cut::cut_never, std::proofs::lemmas::List::take_rest))]
     pub(super) fn part(&mut self, delimiter: u8) -> Result<&'a [u8], Fault>
         ensures { part_seen (λ x. x.now) result self.new.rest.now ≡ part_at delimiter self.old.rest.now }
     {

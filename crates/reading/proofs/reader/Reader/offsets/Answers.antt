@@ -1,7 +1,7 @@
-use Rattle.std.proofs.Common.{◌-◌, Ok, ap, ◌∙◌, length, arith}
+use Rattle.std.proofs.Common.{◌-◌, ap, ◌∙◌, length, arith}
 use Rattle.std.proofs.lemmas.Result.{err_from_is_err_and}
 use Rattle.command.specs.View.{address_view}
-use Rattle.reading.proofs.Offsets.{offsets-over, offsets-refused, offsets_ahead, offsets_back}
+use Rattle.reading.proofs.Offsets.{offsets_refused, offsets_ahead, offsets_back}
 use Rattle.reading.proofs.reader.Reader.offsets.Goals as goal
 
 pub returns-in_err-number : goal.returns-in_err-number
@@ -9,7 +9,7 @@ returns-in_err-number c =
     let l = c.loop-sign in
     let p = err_from_is_err_and c.from_residual.result c.from_residual.ensures.1 in
     rw (p.1, p.2)
-    (offsets-refused l.invariant.1.0 (address_view l.address) l.self.rest.now l.invariant.1.1 c.in-Some.sign c.sign.new.self.rest.now c.in-Some.ensures c.in_err-number.field-0.0 c.in_err-number.ensures.value
+    (offsets_refused l.invariant.1.0 (address_view l.address) l.self.rest.now l.invariant.1.1 c.in-Some.sign c.sign.new.self.rest.now c.in-Some.ensures c.in_err-number.field-0.0 c.in_err-number.ensures.value
     ∙ l.invariant.1.2)
 
 pub loop-sign-preserved-then-sign-eq43 : goal.loop-sign-preserved-then-sign-eq43
@@ -39,9 +39,3 @@ loop-sign-preserved c =
             c.if-sign-eq43.false ∙ l.invariant.1.2,
       ),
     )
-
-pub returns : goal.returns
-returns c =
-    let l = c.loop-sign in
-    let a = address_view l.address in
-    ap (λ bs. Ok (a, bs)) c.in_default.ensures.1 ∙ offsets-over l.invariant.1.0 a l.self.rest.now c.in_default.ensures.0 ∙ l.invariant.1.2
