@@ -23,9 +23,6 @@ module _ (delimiter : ℕ) (first : Bool) (bs : Bytes) where
   items_end zero back e = ap (λ o. elim o as (λ _. Read (List Item × Bool)) [ Some x ↦ Ok ([], x) | None ↦ bad ]) (sym e)
   items_end (suc n) back e = ap (more-items n delimiter first bs) (sym e)
 
-  pub items_full : None ≡ ending bs → items_at 0 delimiter first bs ≡ bad
-  items_full e = ap (λ o. elim o as (λ _. Read (List Item × Bool)) [ Some x ↦ Ok ([], x) | None ↦ bad ]) (sym e)
-
   pub items_refused : (n : ℕ) (f : PatternFault) → None ≡ ending bs → Err f ≡ item_at delimiter first bs → items_at (suc n) delimiter first bs ≡ Err f
   items_refused n f e h =
       ap (more-items n delimiter first bs) (sym e)
@@ -42,10 +39,6 @@ module _ (delimiter : ℕ) (first : Bool) (bs : Bytes) where
       regroup (Err f) = refl
       regroup (Ok q) = ap (λ ys. Ok (ys, q.1)) (sym (append_assoc xs (i ∷ []) q.0))
 
-pub ahead_none : (r : Read (List Item × Bool)) → ahead [] r ≡ r
-ahead_none (Ok q) = refl
-ahead_none (Err f) = refl
-
 -- what the whole is read as, where `xs` were read and `bs` is left, with room for `n` items
 module _ (front first : Bool) (delimiter n : ℕ) (xs : List Item) (bs part : Bytes)
     (left : ahead xs (items_at n delimiter first bs) ≡ items_at 64 delimiter true part) where
@@ -57,10 +50,6 @@ module _ (front first : Bool) (delimiter n : ℕ) (xs : List Item) (bs part : By
       ap (λ ys. Ok (record { front = front; items = ys; back = back })) (sym (append-nil xs))
       ∙ ap (λ r. as_pattern (ahead xs r)) (sym (items_end delimiter first bs n back e))
       ∙ ap as_pattern left
-
-  pub items_over : n ≡ 0 → None ≡ ending bs → bad ≡ body_at front delimiter part
-  items_over z e =
-      ap (λ r. as_pattern (ahead xs r)) (sym (ap (λ k. items_at k delimiter first bs) z ∙ items_full delimiter first bs e)) ∙ ap as_pattern left
 
   pub items_bad : (f : PatternFault) → 0 < n → None ≡ ending bs → Err f ≡ item_at delimiter first bs → Err f ≡ body_at front delimiter part
   items_bad f h e i =

@@ -10,10 +10,6 @@ use Rattle.reading.specs.Parts.{cut_at}
 abbrev pub in_front : Bytes → Part Bytes → Part Bytes
 in_front xs p = p >>= λ r. Ok (xs ++ r.0, r.1)
 
-pub none_in_front : (p : Part Bytes) → in_front [] p ≡ p
-none_in_front (Ok r) = refl
-none_in_front (Err f) = refl
-
 more_in_front : (xs : Bytes) (b : ℕ) (p : Part Bytes) → in_front (xs ++ b ∷ []) p ≡ in_front xs (p >>= λ r. Ok (b ∷ r.0, r.1))
 more_in_front xs b (Ok r) = ap (λ ys. Ok (ys, r.1)) (append_assoc xs (b ∷ []) r.0)
 more_in_front xs b (Err f) = refl
