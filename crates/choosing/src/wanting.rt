@@ -66,6 +66,7 @@ impl<'a> Choice<'a> {
     fn finds<T: LineStore>(&self, line: &LineOf<'_, T>) -> bool
         ensures { result ≡ is_there (found_in (line_at (T.LineStore.meaning line.now.store.now) line.now.n).text (viewed self.now.reading) 0) }
     {
+        // `is_ok_and` was tried: of its closure, which calls a generic function, the check learns nothing.
         match &self.reading {
             Ok(pattern) => line_matches(line, pattern),
             Err(_) => false,

@@ -44,6 +44,34 @@ pub(crate) fn copy_with_tag<T: LineStore, K: LineStore>(line: &LineOf<'_, T>, to
     copy_line(line, to, at, line.tag());
 }
 
+// A line that was taken out of a store.
+#[derive(Drop)]
+pub(crate) struct CutLine<'a> {
+    pub text: LineText<'a>,
+    pub tag: Tag,
+    ghost defined: { tag < 2 ^ 27 },
+}
+
+// Takes line `n` out, its text copied to a buffer.
+pub(crate) fn cut_line<'b, T: LineStore>(
+    text: &mut T,
+    n: usize,
+    buffer: &'b mut [u8; LINE_MAX],
+) -> CutLine<'b>
+    requires { (1 ≤ n) × (n ≤ length (T.LineStore.meaning text.old).lines) }
+    ensures left { T.LineStore.meaning text.new ≡ without (T.LineStore.meaning text.old) n n }
+    ensures text { result.text.bytes.now ≡ (line_at (T.LineStore.meaning text.old) n).text }
+    ensures tag { result.tag ≡ (line_at (T.LineStore.meaning text.old) n).tag }
+{
+    let line = LineOf { store: text, n };
+    let cut = CutLine {
+        tag: line.tag(),
+        text: line.read(buffer),
+    };
+    take_line(text, n);
+    cut
+}
+
 // Takes line `n` out, and puts it behind line `behind` of those that are left.
 pub(crate) fn shift_line<T: LineStore>(text: &mut T, n: usize, behind: usize)
     requires here { (1 ≤ n) × (n ≤ length (T.LineStore.meaning text.old).lines) }
@@ -51,9 +79,6 @@ pub(crate) fn shift_line<T: LineStore>(text: &mut T, n: usize, behind: usize)
     ensures { T.LineStore.meaning text.new ≡ with_line (without (T.LineStore.meaning text.old) n n) behind (line_at (T.LineStore.meaning text.old) n) }
 {
     let mut buffer = [0; LINE_MAX];
-    let line = LineOf { store: text, n };
-    let tag = line.tag();
-    let bytes = line.read(&mut buffer);
-    take_line(text, n);
-    put_line(text, behind, bytes, tag);
+    let cut = cut_line(text, n, &mut buffer);
+    put_line(text, behind, cut.text, cut.tag);
 }

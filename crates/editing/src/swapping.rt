@@ -3,7 +3,7 @@ ghost use Rattle.std.specs.Prelude.{◌≡◌, ◌+◌, ◌-◌, ◌≤◌, ◌+
 ghost use Rattle.lines.specs.Store.{line_at, with_lines};
 ghost use Rattle.editing.specs.Shapes.{fronted, with_set};
 
-use crate::single::{copy_with_tag, put_line, take_line};
+use crate::single::{copy_with_tag, cut_line, put_line, take_line};
 use lines::line::LINE_MAX;
 use lines::line_of::LineOf;
 use lines::store::LineStore;
@@ -17,13 +17,10 @@ fn swap_line<T: LineStore, K: LineStore>(text: &mut T, keep: &mut K, n: usize)
     ensures keep { K.LineStore.meaning keep.new ≡ with_set (K.LineStore.meaning keep.old) n (line_at (T.LineStore.meaning text.old) n) }
 {
     let mut buffer = [0; LINE_MAX];
-    let line = LineOf { store: text, n };
-    let tag = line.tag();
-    let bytes = line.read(&mut buffer);
-    take_line(text, n);
+    let cut = cut_line(text, n, &mut buffer);
     copy_with_tag(&LineOf { store: keep, n }, text, n - 1);
     take_line(keep, n);
-    put_line(keep, n - 1, bytes, tag);
+    put_line(keep, n - 1, cut.text, cut.tag);
 }
 
 // Exchanges the first `n` lines of two stores.
