@@ -1,7 +1,8 @@
 -- What a session means, with the text, the keep and the shelf that it works on: the world of the rules.
-use Rattle.std.specs.Prelude.{ℕ, List, take, is_some, unwrap_or}
+use Rattle.std.specs.Prelude.{ℕ, List, is_some, unwrap_or}
 use Rattle.std.specs.Option.{option_map}
 use Rattle.lines.specs.Store.{Store}
+use Rattle.short_text.specs.Held.{held}
 use Rattle.shelf.specs.Shelf.{Shelf}
 use Rattle.shelf.specs.Text.{text_of}
 use Rattle.rules.specs.Lines.{page, seen_lines}
@@ -12,7 +13,7 @@ use Rattle.state.specs.declared.mode.Mode.TheVariants.{Commands, Gathering, Typi
 use Rattle.state.specs.declared.session.Session.{Session}
 
 abbrev pub gathered_of : Gathered → List ℕ
-gathered_of g = take g.len g.bytes
+gathered_of g = held g.lines
 
 abbrev pub mode_of : ModeCode → Mode
 mode_of Commands = commands
