@@ -24,6 +24,7 @@ pub fn choose<T: LineStore>(text: &mut T, range: Option<Range>, chooser: Chooser
 {
     let wanting = Choice::new(range, chooser);
     let mut chosen = 0;
+    // Each turn alters the text, so this is no `filter` and `count`: their closure would have to hold it.
     for i in 0..text.count() {
         if choose_line(text, i + 1, &wanting) {
             chosen += 1;

@@ -15,6 +15,7 @@ use patterns::{Pattern, PatternFault};
 use ranges::range::Range;
 use resolving::lookup::line_matches;
 
+// A substitution's rule also keeps what it seeks with the pattern read from it; a type for both would hold the part a second time.
 // A range, a chooser and what reading the chooser's part gave, which is done once. A part that is no pattern matches nothing.
 #[derive(Drop)]
 pub struct Choice<'a> {

@@ -65,6 +65,7 @@ fn edit_named<T: LineStore, K: LineStore, S: Shelf>(
     ensures text { (T.LineStore.meaning desk.new.text.now).capacity ≡ (T.LineStore.meaning desk.old.text.now).capacity }
     ensures keep { (K.LineStore.meaning desk.new.keep.now).capacity ≡ (K.LineStore.meaning desk.old.keep.now).capacity }
 {
+    // Taken apart by `let .. else`, which the project asks for at a lookup.
     let Some(file) = shelf.lookup(name) else {
         return Err(Fault::FileNotFound);
     };

@@ -57,6 +57,7 @@ pub fn load_file<T: LineStore, S: Shelf>(file: &FileOf<'_, S>, text: &mut T)
 {
     let size = file.size();
     let mut next = 0;
+    // The places are no range: each line says where the next one begins.
     while next < size {
         next = load_line(file, next, text);
     }

@@ -20,6 +20,7 @@ impl<'a, T: LineStore> Page<'a, T> {
         ensures value { result ≡ base_line (page (seen_lines (T.LineStore.meaning self.now.text.now)) self.now.current) (base_view base.entry) }
         ensures bounded { IfOk result (λ n. n ≤ 65535) }
     {
+        // Both lookups are taken apart by `let .. else`, which the project asks for here.
         match base {
             Base::AtCurrent => Ok(self.current),
             Base::AtLast => Ok(self.text.count()),

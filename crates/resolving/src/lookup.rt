@@ -56,6 +56,7 @@ impl<'a, T: LineStore> Page<'a, T> {
         ensures value { result ≡ next_match (page (seen_lines (T.LineStore.meaning self.now.text.now)) self.now.current) (slashed part.now) }
         ensures within { IfSome result (λ n. n ≤ length (T.LineStore.meaning self.now.text.now).lines) }
     {
+        // A part that is no pattern matches nothing; its fault goes no further, so this is no `?`.
         let Ok(pattern) = Pattern::read(b'/', part) else {
             return None;
         };

@@ -72,6 +72,7 @@ fn put_lines<T: LineStore>(text: &mut T, behind: usize, lines: Spelling<'_>) -> 
     ensures done { result ≡ behind + length (lines_of lines.entry) }
 {
     let mut done = behind;
+    // Counted by hand: the count is what is answered, so it is wanted behind the loop too.
     for line in lines {
         let bytes = line.unwrap();
         put_line(text, done, LineText { bytes: &bytes }, PLAIN);

@@ -7,6 +7,7 @@ use lines::fault::StoreFault;
 use lines::line::{Tag, is_defined};
 use lines::store::{LineStore, check_put};
 
+// Some bodies read as those of the other store: what two stores can share of a call stands with the trait, as `check_put`.
 impl LineStore for ChainStore {
     ghost meaning = { meaning_of };
 
