@@ -1,4 +1,5 @@
-// A place in the lines that a text becomes.
+// A place in the lines that a text becomes. That it lies in that text is the invariant of a `Spelling`, which holds both; here it would
+// want the length a second time.
 
 #[derive(Clone, Copy)]
 pub struct Cursor<'a> {
