@@ -46,7 +46,7 @@ pub fn append<T: LineStore>(
 // Takes a line typed in text mode, which is not `.`: it goes in behind the current one and is current then. The first that
 // goes in fills the keep, with the current line from before the `a`.
 pub fn put_typed<T: LineStore, K: LineStore>(
-    desk: &mut Desk<'_, T, K>,
+    desk: &mut Desk<'_, '_, '_, T, K>,
     before: usize,
     any: bool,
     line: LineText<'_>,
@@ -56,6 +56,9 @@ pub fn put_typed<T: LineStore, K: LineStore>(
     ensures world { (h : Shelf) → world_of desk.new.session.now (T.LineStore.meaning desk.new.text.now) (K.LineStore.meaning desk.new.keep.now) h ≡ (typed (world_of desk.old.session.now (T.LineStore.meaning desk.old.text.now) (K.LineStore.meaning desk.old.keep.now) h) before any line.entry.bytes.now).world }
     ensures text { (T.LineStore.meaning desk.new.text.now).capacity ≡ (T.LineStore.meaning desk.old.text.now).capacity }
     ensures keep { (K.LineStore.meaning desk.new.keep.now).capacity ≡ (K.LineStore.meaning desk.old.keep.now).capacity }
+    ensures lent_session { desk.new.session.ghost_name ≡ desk.old.session.ghost_name }
+    ensures lent_text { desk.new.text.ghost_name ≡ desk.old.text.ghost_name }
+    ensures lent_keep { desk.new.keep.ghost_name ≡ desk.old.keep.ghost_name }
 {
     if desk.text.count() >= desk.session.capacity {
         return Err(Fault::TextFull);
@@ -70,22 +73,31 @@ pub fn put_typed<T: LineStore, K: LineStore>(
 }
 
 // Copies the text into the keep, with the current line from before the `a`.
-fn keep_text<T: LineStore, K: LineStore>(desk: &mut Desk<'_, T, K>, before: usize)
+fn keep_text<T: LineStore, K: LineStore>(desk: &mut Desk<'_, '_, '_, T, K>, before: usize)
     ensures world { (h : Shelf) → world_of desk.new.session.now (T.LineStore.meaning desk.new.text.now) (K.LineStore.meaning desk.new.keep.now) h ≡ kept_if true (page (unchosen (seen_lines (T.LineStore.meaning desk.old.text.now))) before) (world_of desk.old.session.now (T.LineStore.meaning desk.old.text.now) (K.LineStore.meaning desk.old.keep.now) h) }
     ensures current { desk.new.session.now.current ≡ desk.old.session.now.current }
     ensures text { T.LineStore.meaning desk.new.text.now ≡ T.LineStore.meaning desk.old.text.now }
     ensures keep { (K.LineStore.meaning desk.new.keep.now).capacity ≡ (K.LineStore.meaning desk.old.keep.now).capacity }
+    ensures lent_session { desk.new.session.ghost_name ≡ desk.old.session.ghost_name }
+    ensures lent_text { desk.new.text.ghost_name ≡ desk.old.text.ghost_name }
+    ensures lent_keep { desk.new.keep.ghost_name ≡ desk.old.keep.ghost_name }
 {
     fill_keep(desk.text, desk.keep);
     desk.session.kept = Some(before);
 }
 
 // Puts a line behind the current one, and makes it current.
-fn put_behind_current<T: LineStore, K: LineStore>(desk: &mut Desk<'_, T, K>, line: LineText<'_>)
+fn put_behind_current<T: LineStore, K: LineStore>(
+    desk: &mut Desk<'_, '_, '_, T, K>,
+    line: LineText<'_>,
+)
     requires { length (T.LineStore.meaning desk.old.text.now).lines < (T.LineStore.meaning desk.old.text.now).capacity }
     ensures world { (h : Shelf) → world_of desk.new.session.now (T.LineStore.meaning desk.new.text.now) (K.LineStore.meaning desk.new.keep.now) h ≡ with_text (typed_in (page (seen_lines (T.LineStore.meaning desk.old.text.now)) desk.old.session.now.current) line.entry.bytes.now) (world_of desk.old.session.now (T.LineStore.meaning desk.old.text.now) (K.LineStore.meaning desk.old.keep.now) h) }
     ensures text { (T.LineStore.meaning desk.new.text.now).capacity ≡ (T.LineStore.meaning desk.old.text.now).capacity }
     ensures keep { (K.LineStore.meaning desk.new.keep.now).capacity ≡ (K.LineStore.meaning desk.old.keep.now).capacity }
+    ensures lent_session { desk.new.session.ghost_name ≡ desk.old.session.ghost_name }
+    ensures lent_text { desk.new.text.ghost_name ≡ desk.old.text.ghost_name }
+    ensures lent_keep { desk.new.keep.ghost_name ≡ desk.old.keep.ghost_name }
 {
     put_line(desk.text, desk.session.current, line, PLAIN);
     desk.session.current += 1;

@@ -5,4 +5,5 @@ pub mod appending;
 pub mod quitting;
 pub mod reading_in;
 mod saving;
+pub mod trying;
 pub mod undoing;

@@ -27,7 +27,7 @@ use state::desk::Desk;
 // Replaces the text by the lines of a file, and empties the keep. Writes the file's size onto the sheet, which is empty so
 // far, and answers how many bytes that is. Unsaved text is refused, unless the line before was refused for that.
 pub fn edit<T: LineStore, K: LineStore, S: Shelf>(
-    desk: &mut Desk<'_, T, K>,
+    desk: &mut Desk<'_, '_, '_, T, K>,
     shelf: &S,
     name: FileName<'_>,
     sheet: &mut [u8],
@@ -39,6 +39,9 @@ pub fn edit<T: LineStore, K: LineStore, S: Shelf>(
     ensures world { world_of desk.new.session.now (T.LineStore.meaning desk.new.text.now) (K.LineStore.meaning desk.new.keep.now) (S.Shelf.meaning shelf.now) ≡ (edited (length sheet.old - 16) (world_of desk.old.session.now (T.LineStore.meaning desk.old.text.now) (K.LineStore.meaning desk.old.keep.now) (S.Shelf.meaning shelf.now)) (name_view name.entry)).world }
     ensures text { (T.LineStore.meaning desk.new.text.now).capacity ≡ (T.LineStore.meaning desk.old.text.now).capacity }
     ensures keep { (K.LineStore.meaning desk.new.keep.now).capacity ≡ (K.LineStore.meaning desk.old.keep.now).capacity }
+    ensures lent_session { desk.new.session.ghost_name ≡ desk.old.session.ghost_name }
+    ensures lent_text { desk.new.text.ghost_name ≡ desk.old.text.ghost_name }
+    ensures lent_keep { desk.new.keep.ghost_name ≡ desk.old.keep.ghost_name }
 {
     check_saved(desk.session)?;
     match name {
@@ -52,7 +55,7 @@ pub fn edit<T: LineStore, K: LineStore, S: Shelf>(
 
 // The same, with the name known, and with nothing to be lost.
 fn edit_named<T: LineStore, K: LineStore, S: Shelf>(
-    desk: &mut Desk<'_, T, K>,
+    desk: &mut Desk<'_, '_, '_, T, K>,
     shelf: &S,
     name: &[u8],
     sheet: &mut [u8],
@@ -64,6 +67,9 @@ fn edit_named<T: LineStore, K: LineStore, S: Shelf>(
     ensures world { world_of desk.new.session.now (T.LineStore.meaning desk.new.text.now) (K.LineStore.meaning desk.new.keep.now) (S.Shelf.meaning shelf.now) ≡ (read_named (length sheet.old - 16) (world_of desk.old.session.now (T.LineStore.meaning desk.old.text.now) (K.LineStore.meaning desk.old.keep.now) (S.Shelf.meaning shelf.now)) name.now).world }
     ensures text { (T.LineStore.meaning desk.new.text.now).capacity ≡ (T.LineStore.meaning desk.old.text.now).capacity }
     ensures keep { (K.LineStore.meaning desk.new.keep.now).capacity ≡ (K.LineStore.meaning desk.old.keep.now).capacity }
+    ensures lent_session { desk.new.session.ghost_name ≡ desk.old.session.ghost_name }
+    ensures lent_text { desk.new.text.ghost_name ≡ desk.old.text.ghost_name }
+    ensures lent_keep { desk.new.keep.ghost_name ≡ desk.old.keep.ghost_name }
 {
     // Taken apart by `let .. else`, which the project asks for at a lookup.
     let Some(file) = shelf.lookup(name) else {
@@ -96,7 +102,7 @@ fn check_file<S: Shelf>(file: &FileOf<'_, S>, capacity: usize, room: usize) -> R
 
 // Replaces the text by the lines of a file that was checked, and empties the keep. The name is remembered.
 fn read_in<T: LineStore, K: LineStore, S: Shelf>(
-    desk: &mut Desk<'_, T, K>,
+    desk: &mut Desk<'_, '_, '_, T, K>,
     file: &FileOf<'_, S>,
     name: &[u8],
 )
@@ -106,6 +112,9 @@ fn read_in<T: LineStore, K: LineStore, S: Shelf>(
     ensures world { (h : Shelf) → world_of desk.new.session.now (T.LineStore.meaning desk.new.text.now) (K.LineStore.meaning desk.new.keep.now) h ≡ loaded (world_of desk.old.session.now (T.LineStore.meaning desk.old.text.now) (K.LineStore.meaning desk.old.keep.now) h) name.now (file_in (S.Shelf.meaning file.now.shelf.now) file.now.file) }
     ensures text { (T.LineStore.meaning desk.new.text.now).capacity ≡ (T.LineStore.meaning desk.old.text.now).capacity }
     ensures keep { (K.LineStore.meaning desk.new.keep.now).capacity ≡ (K.LineStore.meaning desk.old.keep.now).capacity }
+    ensures lent_session { desk.new.session.ghost_name ≡ desk.old.session.ghost_name }
+    ensures lent_text { desk.new.text.ghost_name ≡ desk.old.text.ghost_name }
+    ensures lent_keep { desk.new.keep.ghost_name ≡ desk.old.keep.ghost_name }
 {
     empty(desk.text);
     empty(desk.keep);

@@ -28,6 +28,9 @@ returns-in-Given g c =
       world = c.edit_named.ensures.world ∙ sym (ap (λ (o : Outcome). o.world) d);
       text = c.edit_named.ensures.text;
       keep = c.edit_named.ensures.keep;
+      lent_session = c.edit_named.ensures.lent_session;
+      lent_text = c.edit_named.ensures.lent_text;
+      lent_keep = c.edit_named.ensures.lent_keep;
     }
 
 pub returns-in_ok-label-in-Remembered : goal.returns-in_ok-label-in-Remembered
@@ -49,4 +52,7 @@ returns-in_ok-label-in-Remembered g c =
       world = c.edit_named-in-Remembered.ensures.world ∙ sym (ap (λ (o : Outcome). o.world) d);
       text = c.edit_named-in-Remembered.ensures.text;
       keep = c.edit_named-in-Remembered.ensures.keep;
+      lent_session = c.edit_named-in-Remembered.ensures.lent_session;
+      lent_text = c.edit_named-in-Remembered.ensures.lent_text;
+      lent_keep = c.edit_named-in-Remembered.ensures.lent_keep;
     }
