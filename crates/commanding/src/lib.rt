@@ -5,5 +5,4 @@ pub mod appending;
 pub mod quitting;
 pub mod reading_in;
 mod saving;
-pub mod trying;
 pub mod undoing;
