@@ -30,7 +30,7 @@ places '3a while and loop' '^\s*(while|loop)\b'
 places '3b for over a range' '^\s*for .* in .*\.\.'
 places '3c enumerate' 'enumerate\(\)'
 places '3d push or += of one in a loop' '^\s+\w+ \+= 1;'
-places '4a a field written over by naming all fields' 'tag: row\.tag|fits: count\.fits|len: row\.len'
+places '4a a field that a literal takes over from another value' '\b([a-z_]+): [a-z]+\.\1,$'
 places '4b decimal digits by hand' "b'0' \+|/= TEN|% TEN"
 places '5a a line of a text as two parameters' 'text: &T,? n: usize|n: usize,$'
 places '5b clause: n is a line' 'requires.*\(1 ≤ n\) × \(n ≤ length'
