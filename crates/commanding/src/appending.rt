@@ -83,7 +83,8 @@ fn keep_text<T: LineStore, K: LineStore>(desk: &mut Desk<'_, '_, '_, T, K>, befo
     ensures lent_keep { desk.new.keep.ghost_name ≡ desk.old.keep.ghost_name }
 {
     fill_keep(desk.text, desk.keep);
-    desk.session.kept = Some(before);
+    desk.session.kept_current = before;
+    desk.session.undoable = true;
 }
 
 // Puts a line behind the current one, and makes it current.

@@ -120,7 +120,8 @@ fn read_in<T: LineStore, K: LineStore, S: Shelf>(
     empty(desk.keep);
     load_file(file, desk.text);
     desk.session.current = desk.text.count();
-    desk.session.kept = None;
+    desk.session.kept_current = 0;
     desk.session.name = Label::new(name);
+    desk.session.undoable = false;
     desk.session.unsaved = false;
 }

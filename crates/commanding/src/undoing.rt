@@ -22,10 +22,13 @@ pub fn undo<T: LineStore, K: LineStore>(
     ensures text { (T.LineStore.meaning text.new).capacity ≡ (T.LineStore.meaning text.old).capacity }
     ensures keep { (K.LineStore.meaning keep.new).capacity ≡ (K.LineStore.meaning keep.old).capacity }
 {
-    let kept = session.kept.ok_or(Fault::NothingToUndo)?;
+    if !session.undoable {
+        return Err(Fault::NothingToUndo);
+    }
     exchange(text, keep);
-    session.kept = Some(session.current);
-    session.current = kept;
+    let current = session.current;
+    session.current = session.kept_current;
+    session.kept_current = current;
     session.unsaved = true;
     Ok(())
 }

@@ -1,5 +1,5 @@
 -- What a session means, with the text, the keep and the shelf that it works on: the world of the rules.
-use Rattle.std.specs.Prelude.{ℕ, List, is_some, unwrap_or}
+use Rattle.std.specs.Prelude.{ℕ, List}
 use Rattle.std.specs.Option.{option_map}
 use Rattle.lines.specs.Store.{Store}
 use Rattle.short_text.specs.Held.{held}
@@ -25,11 +25,11 @@ abbrev pub world_of : Session → Store → Store → Shelf → World
 world_of s t k h = record {
   mode = mode_of s.mode;
   text = page (seen_lines t) s.current;
-  keep = page (seen_lines k) (unwrap_or s.kept 0);
+  keep = page (seen_lines k) s.kept_current;
   capacity = s.capacity;
   shelf = h;
   name = option_map text_of s.name;
-  undoable = is_some s.kept;
+  undoable = s.undoable;
   unsaved = s.unsaved;
   warned = s.warned;
 }
