@@ -92,7 +92,7 @@ module _ (was : List Row) (f b p q at : ℕ) (le : f ≤ b) (last : b ≤ length
           ∙ ap (λ (z : List Row). z ++ drop (b - m) (drop m rows)) new_is
           ∙ ap (λ (z : List Row). relaid (offset + (q - p)) ys ++ z) (ap (drop (b - m)) behind ∙ drop_at ys (drop b was) (b - m) long_ys)
 
-      slid_down : (end : ℕ) → laid q (drop b was) end ≡ true → Slid was f b p q end at made offset
+      pub slid_down : (end : ℕ) → laid q (drop b was) end ≡ true → Slid was f b p q end at made offset
       slid_down end g = record {
         here = down_offset ∙ ap total (sym (take-append-le at (take f was) (drop b was) (omega (arith, long))));
         same = λ bytes.
@@ -135,7 +135,7 @@ module _ (was : List Row) (f b p q end at : ℕ) (le : f ≤ b) (last : b ≤ le
   up_laid = subst (λ (z : List Row). laid q z end ≡ true) (sym up_joined) g
 
   -- where the bytes of the moved rows stop
-  up_stop : cond (ltb (b + (at - f)) (length was)) (get_or was (b + (at - f)) no_row).start end ≡ q + total up_xs
+  pub up_stop : cond (ltb (b + (at - f)) (length was)) (get_or was (b + (at - f)) no_row).start end ≡ q + total up_xs
   up_stop =
       cond_both (ltb (b + (at - f)) (length was)) (get_or was (b + (at - f)) no_row).start end (λ (k : ℕ). k ≡ q + total up_xs)
       (λ e.
@@ -202,7 +202,7 @@ module _ (was : List Row) (f b p q end at : ℕ) (le : f ≤ b) (last : b ≤ le
       up_made_behind : drop up_m up_made ≡ up_ys
       up_made_behind = drop-put_mid f (at - f) rows new up_m (omega arith) (omega arith) long_new ∙ up_behind
 
-      slid_up : (offset : ℕ) → offset ≡ p + total up_xs → Slid was f b p q end at up_made offset
+      pub slid_up : (offset : ℕ) → offset ≡ p + total up_xs → Slid was f b p q end at up_made offset
       slid_up offset o = record {
         here =
             let t = laid-total 0 (take f was) p h in

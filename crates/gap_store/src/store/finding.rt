@@ -9,6 +9,22 @@ use crate::row::Row;
 use lines::store::LineStore;
 
 impl GapStore {
+    // How many lines there are.
+    #[tactic(auto, using(crate::specs::Stored::count_of), unfolding(crate::specs::Meaning::meaning_of))]
+    pub(super) fn lines(&self) -> usize
+        ensures { result ≡ length (meaning_of self.now).lines }
+    {
+        self.rows.count()
+    }
+
+    // How many lines there can be.
+    #[tactic(auto, unfolding(crate::specs::Meaning::meaning_of))]
+    pub(super) fn most_lines(&self) -> usize
+        ensures { result ≡ (meaning_of self.now).capacity }
+    {
+        self.rows.all.len()
+    }
+
     // The row of line `n`.
     pub(super) fn find(&self, n: usize) -> Option<Row>
         ensures { MatchOption result (present (meaning_of self.now) n ≡ false) (λ row. Located self.now n row) }

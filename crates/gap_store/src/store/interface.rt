@@ -18,14 +18,12 @@ impl LineStore for GapStore {
         let last = x.rows.last in
         record { some = x.some; bounded = x.bounded; room = omega arith; each = x.each } };
 
-    #[tactic(auto, using(crate::specs::Stored::count_of), unfolding(crate::specs::Meaning::meaning_of))]
     fn count(&self) -> usize {
-        self.rows.count()
+        self.lines()
     }
 
-    #[tactic(auto, unfolding(crate::specs::Meaning::meaning_of))]
     fn capacity(&self) -> usize {
-        self.rows.all.len()
+        self.most_lines()
     }
 
     fn length(&self, n: usize) -> Result<usize, StoreFault> {
