@@ -6,7 +6,7 @@ use Rattle.patterns.specs.Items.{Bytes}
 use Rattle.patterns.specs.Reading.{Read, ◌>>=◌, bad, closing, member_at, members_at}
 
 -- what `members_at` does at a byte, with `closes` for its test
-abbrev stepped : ℕ → Bool → Set → ℕ → Bytes → Read (Set × Bytes)
+abbrev pub stepped : ℕ → Bool → Set → ℕ → Bytes → Read (Set × Bytes)
 stepped n closes s b bs =
     elim closes [
       | true ↦ Ok (s, bs)
@@ -19,7 +19,7 @@ members_end (suc n) first s [] h = refl
 members_end (suc n) first s (b ∷ bs) h = absurd (omega arith)
 
 module _ (first : Bool) (s : Set) where
-  step : (n : ℕ) (bs : Bytes) → 0 < length bs → length bs ≤ n
+  pub step : (n : ℕ) (bs : Bytes) → 0 < length bs → length bs ≤ n
       → members_at n first s bs ≡ stepped (n - 1) (eqb (get_or bs 0 0) closing && not first) s (get_or bs 0 0) (drop 1 bs)
   step n [] some enough = absurd (omega arith)
   step zero (b ∷ bs) some enough = absurd (omega arith)

@@ -19,8 +19,17 @@ pub fn print_number(n: usize, sheet: &mut [u8], at: usize)
     requires { at + length (numbered n) ≤ length sheet.old }
     ensures { sheet.new ≡ written sheet.old at (numbered n) }
 {
+    print_sized(n, number_size(n), sheet, at);
+}
+
+// Prints a number that is known to take `size` bytes, the last of which is its break.
+fn print_sized(n: usize, size: usize, sheet: &mut [u8], at: usize)
+    requires size { size ≡ length (numbered n) }
+    requires room { at + size ≤ length sheet.old }
+    ensures { sheet.new ≡ written sheet.old at (numbered n) }
+{
     let mut buffer = Buffer::new();
     let digits = buffer.format(n).as_bytes();
     write_bytes(sheet, at, digits);
-    sheet[at + digits.len()] = LINE_BREAK;
+    sheet[at + size - 1] = LINE_BREAK;
 }

@@ -1,10 +1,10 @@
 // Reading a pattern from its bytes.
-ghost use Rattle.std.specs.Prelude.{◌≡◌};
+ghost use Rattle.std.specs.Prelude.{◌≡◌, map};
 ghost use Rattle.patterns.specs.Reading.{body_at, pattern_of};
-ghost use Rattle.patterns.specs.View.{viewed};
+ghost use Rattle.patterns.specs.View.{item_of, meaning, viewed};
 
 use super::reader::Reader;
-use super::{ITEMS_MAX, Pattern};
+use super::{ITEMS_MAX, Item, Pattern};
 use crate::fault::PatternFault;
 use arrayvec::ArrayVec;
 
@@ -20,6 +20,15 @@ impl Pattern {
             _ => read_body(false, delimiter, part),
         }
     }
+
+    // The pattern of these parts, with no item more and none less.
+    fn of_parts(front: bool, items: ArrayVec<Item, ITEMS_MAX>, back: bool) -> Pattern
+        ensures front { (meaning result).front ≡ front }
+        ensures items { (meaning result).items ≡ map item_of items.items }
+        ensures back { (meaning result).back ≡ back }
+    {
+        Pattern { front, items, back }
+    }
 }
 
 // The items up to the end, and the end anchor.
@@ -30,7 +39,7 @@ fn read_body(front: bool, delimiter: u8, body: &[u8]) -> Result<Pattern, Pattern
     let mut reader = Reader::new(body);
     loop {
         if let Some(back) = reader.ending() {
-            return Ok(Pattern { front, items, back });
+            return Ok(Pattern::of_parts(front, items, back));
         }
         if items.is_full() {
             return Err(PatternFault::Bad);

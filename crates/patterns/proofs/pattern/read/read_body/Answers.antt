@@ -10,8 +10,10 @@ use Rattle.patterns.proofs.pattern.read.read_body.Goals as goal
 pub returns-in-Some : goal.returns-in-Some
 returns-in-Some c =
     let xs = c.loop-back.items.items in
-    items_done c.args.front (eqb (length xs) 0) c.args.delimiter (64 - length xs) (map item_of xs) c.loop-back.reader.rest.now c.args.body.now
-    c.loop-back.invariant.1 c.in-Some.back c.in-Some.ensures
+    let made = c.of_parts.ensures in
+    rw (made.front, made.items, made.back)
+    (items_done c.args.front (eqb (length xs) 0) c.args.delimiter (64 - length xs) (map item_of xs) c.loop-back.reader.rest.now c.args.body.now
+    c.loop-back.invariant.1 c.in-Some.back c.in-Some.ensures)
 
 pub returns-in_err-item : goal.returns-in_err-item
 returns-in_err-item c =
