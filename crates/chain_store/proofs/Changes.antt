@@ -80,7 +80,7 @@ module _ (s : ChainStore) where
     bounds : (1 ≤ n) × (n ≤ s.count)
     bounds = let e = count_is s in let t = f.there in (grind (arith, nat_tests), grind (arith, nat_tests))
 
-    tag_means : (g : ℕ) → line_of new ≡ record { text = (line_of old).text; tag = g }
+    pub tag_means : (g : ℕ) → line_of new ≡ record { text = (line_of old).text; tag = g }
         → lines_along links (held (set slots i new)) s.count ≡ set (meaning_of s).lines (n - 1) (record { text = (line_at (meaning_of s) n).text; tag = g })
     tag_means g e =
         let was : line_of old ≡ line_at (meaning_of s) n = sym (held_at slots i old f.inside read) ∙ sym f.line in

@@ -5,7 +5,7 @@ use Rattle.command.specs.Said.{Bytes}
 use Rattle.command.specs.Lists.{with_first, commands_in}
 
 -- bytes in front of the first command
-abbrev in_front : Bytes → List Bytes → List Bytes
+abbrev pub in_front : Bytes → List Bytes → List Bytes
 in_front xs [] = xs ∷ []
 in_front xs (c ∷ cs) = (xs ++ c) ∷ cs
 
@@ -21,7 +21,7 @@ more_in_front xs b (c ∷ cs) = ap (λ ys. ys ∷ cs) (sym (append_assoc xs (b �
 abbrev step : ℕ → ℕ → Bytes → Bool → List Bytes
 step b c bs t = elim t [ true ↦ [] ∷ commands_in bs | false ↦ with_first b (commands_in (c ∷ bs)) ]
 
-commands_start : (bs : Bytes) → in_front [] (commands_in bs) ≡ commands_in bs
+pub commands_start : (bs : Bytes) → in_front [] (commands_in bs) ≡ commands_in bs
 unfolding commands_in
 commands_start [] = refl
 commands_start (b ∷ []) = refl
@@ -54,7 +54,7 @@ cuts bs k = eqb (get_or bs k 0) 92 && eqb (get_or bs (k + 1) 0) 10
 
 module _ (bs : Bytes) where
   -- the bytes in front of a place belong to the first command, where no cut stands in front of it
-  commands_on : (at : ℕ) → at ≤ length bs - 1 → ((k : ℕ) → k < at → cuts bs k ≡ false) → commands_in bs ≡ in_front (take at bs) (commands_in (drop at bs))
+  pub commands_on : (at : ℕ) → at ≤ length bs - 1 → ((k : ℕ) → k < at → cuts bs k ≡ false) → commands_in bs ≡ in_front (take at bs) (commands_in (drop at bs))
   commands_on zero h none = sym (commands_start bs)
   commands_on (suc at) h none =
       let c : (eqb (get_or bs at 0) 92 && eqb (get_or bs (at + 1) 0) 10) ≡ false = none at (omega arith) in

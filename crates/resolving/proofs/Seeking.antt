@@ -11,25 +11,25 @@ use Rattle.rules.specs.Patterns.{found, matches}
 use Rattle.resolving.specs.Lookup.{fits}
 
 module _ {L : Type 0} where
-  first-later : (test : L → Bool) (n : ℕ) (l : L) (ls : List L) → test l ≡ false → first_where test n (l ∷ ls) ≡ first_where test (suc n) ls
+  pub first-later : (test : L → Bool) (n : ℕ) (l : L) (ls : List L) → test l ≡ false → first_where test n (l ∷ ls) ≡ first_where test (suc n) ls
   first-later test n l ls h = ap (λ (b : Bool). elim b as (λ _. Option ℕ) [ true ↦ Some n | false ↦ first_where test (suc n) ls ]) h
 
-  first_none : (test : L → Bool) → ((l : L) → test l ≡ false) → (n : ℕ) (ls : List L) → first_where test n ls ≡ None
+  pub first_none : (test : L → Bool) → ((l : L) → test l ≡ false) → (n : ℕ) (ls : List L) → first_where test n ls ≡ None
   first_none test h n [] = refl
   first_none test h n (l ∷ ls) = first-later test n l ls (h l) ∙ first_none test h (suc n) ls
 
-  first_same : (a b : L → Bool) → ((l : L) → a l ≡ b l) → (n : ℕ) (ls : List L) → first_where a n ls ≡ first_where b n ls
+  pub first_same : (a b : L → Bool) → ((l : L) → a l ≡ b l) → (n : ℕ) (ls : List L) → first_where a n ls ≡ first_where b n ls
   first_same a b h n [] = refl
   first_same a b h n (l ∷ ls) =
       ap (λ (t : Bool). elim t as (λ _. Option ℕ) [ true ↦ Some n | false ↦ first_where a (suc n) ls ]) (h l)
       ∙ ap (λ (o : Option ℕ). elim (b l) as (λ _. Option ℕ) [ true ↦ Some n | false ↦ o ]) (first_same a b h (suc n) ls)
 
 -- what a part that is a pattern finds, and one that is not
-part-matches : (s : Sought) (p : Pattern) → pattern_of s.delimiter s.part ≡ Ok p → (l : Line) → matches s l.text ≡ fits p l
+pub part-matches : (s : Sought) (p : Pattern) → pattern_of s.delimiter s.part ≡ Ok p → (l : Line) → matches s l.text ≡ fits p l
 unfolding found
 part-matches s p e l = rw e refl
 
-no-part-matches : (s : Sought) (f : PatternFault) → pattern_of s.delimiter s.part ≡ Err f → (l : Line) → matches s l.text ≡ false
+pub no-part-matches : (s : Sought) (f : PatternFault) → pattern_of s.delimiter s.part ≡ Err f → (l : Line) → matches s l.text ≡ false
 unfolding found
 no-part-matches s f e l = rw e refl
 
