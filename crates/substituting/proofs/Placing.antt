@@ -92,7 +92,7 @@ putting_more all start now next from b l left p e c =
       capacity = c ∙ p.capacity;
     }
 
--- the same, with what an iterator has left
+-- the same, with what is left as it is spelled out
 pub record Left (all : List (List ℕ)) (start now : Store) (from b : ℕ) (rest : List (Option (ArrayVec ℕ))) : Type 0 where
   pub lines : List (List ℕ)
   pub rest-is : rest ≡ map line_of lines

@@ -23,7 +23,7 @@ use Rattle.substituting.proofs.Piecing.{rewritten_front, rewritten_next, rewritt
 use Rattle.substituting.proofs.Tallying.{stayed, reckoned_append, reckoned_few, reckoned_span, tally_all, tally_none, tallied-right}
 
 module _ (s : Substitution) (r : Span) where
-  reckoned_front : (m : ℕ) (ls : List Line) → m + 1 ≤ r.first → m ≤ length ls → m ≤ 4097
+  pub reckoned_front : (m : ℕ) (ls : List Line) → m + 1 ≤ r.first → m ≤ length ls → m ≤ 4097
       → reckoned_pieces (stayed none_reckoned m) (rewritten s r (m + 1) (drop m ls)) ≡ reckoned_pieces none_reckoned (rewritten s r 1 ls)
   reckoned_front m ls h k few =
       let e : 1 + m ≡ m + 1 = omega arith in
@@ -32,14 +32,14 @@ module _ (s : Substitution) (r : Span) where
       ∙ reckoned_append (span 1 m) (rewritten s r (m + 1) (drop m ls)) none_reckoned
       ∙ ap (λ x. reckoned_pieces x (rewritten s r (m + 1) (drop m ls))) (reckoned_span m 1 none_reckoned (omega arith) ∙ ap (λ i. stayed none_reckoned i) q))
 
-  reckoned_next : (k : Reckoned) (i : ℕ) (ls : List Line) (d : Line) → i < length ls → r.first ≤ i + 1 → i + 1 ≤ r.final
+  pub reckoned_next : (k : Reckoned) (i : ℕ) (ls : List Line) (d : Line) → i < length ls → r.first ≤ i + 1 → i + 1 ≤ r.final
       → reckoned_pieces (reckoned_pieces k (pieces_for s (i + 1) (get_or ls i d).text)) (rewritten s r (i + 1 + 1) (drop (i + 1) ls))
       ≡ reckoned_pieces k (rewritten s r (i + 1) (drop i ls))
   reckoned_next k i ls d h low high =
       sym (ap (λ ps. reckoned_pieces k ps) (rewritten_next s r i ls d h low high)
       ∙ reckoned_append (pieces_for s (i + 1) (get_or ls i d).text) (rewritten s r (i + 1 + 1) (drop (i + 1) ls)) k)
 
-  reckoned_past : (k : Reckoned) (i : ℕ) (ls : List Line) → r.final ≤ i → k.count ≤ 4097
+  pub reckoned_past : (k : Reckoned) (i : ℕ) (ls : List Line) → r.final ≤ i → k.count ≤ 4097
       → reckoned_pieces k (rewritten s r (i + 1) (drop i ls)) ≡ stayed k (min (k.count + (length ls - i)) 4097)
   reckoned_past k i ls h few =
       ap (λ ps. reckoned_pieces k ps) (rewritten-past s r (i + 1) (drop i ls) (omega arith) ∙ ap (λ n. span (i + 1) n) (length-drop i ls))
@@ -47,12 +47,12 @@ module _ (s : Substitution) (r : Span) where
 
 -- the lines of a store
 
-seen_text : (t : Store) (i : ℕ) → i < length t.lines → (get_or (seen_lines t) i (seen stored.blank)).text ≡ (line_at t (i + 1)).text
+pub seen_text : (t : Store) (i : ℕ) → i < length t.lines → (get_or (seen_lines t) i (seen stored.blank)).text ≡ (line_at t (i + 1)).text
 seen_text t i h =
     let e : i ≡ i + 1 - 1 = omega arith in
     ap (λ (l : Line). l.text) (get_or-map seen t.lines i stored.blank (seen stored.blank) h) ∙ ap (λ n. (get_or t.lines n stored.blank).text) e
 
-seen_fit : (t : Store) → Sound t → (n : ℕ) → all_fit (texts_of (picked (seen_lines t) n)) ≡ true
+pub seen_fit : (t : Store) → Sound t → (n : ℕ) → all_fit (texts_of (picked (seen_lines t) n)) ≡ true
 seen_fit t f zero = refl
 seen_fit t f (suc j) =
     let e : get_or (drop j t.lines) 0 stored.blank ≡ line_at t (suc j) = get_or-drop j t.lines 0 stored.blank ∙ ap (λ n. get_or t.lines n stored.blank) at in

@@ -61,7 +61,7 @@ front-replaced r t at [] = refl
 front-replaced r t at (m ∷ ms) = front_front [] _ _
 
 -- what is left behind a place, by the bits and the matches that are left
-abbrev left_behind : Substitution → List ℕ → Cursor → List Bit → List Match → List (List ℕ)
+abbrev pub left_behind : Substitution → List ℕ → Cursor → List Bit → List Match → List (List ℕ)
 left_behind s t c bits ms = filled bits c.run.now (replaced (bits_of s.replacement) t c.at ms)
 
 module _ (s : Substitution) (t : List ℕ) (c : Cursor) where

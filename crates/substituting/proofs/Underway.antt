@@ -126,10 +126,10 @@ module _ (s : Substitution) (r : Span) (start : Store) where
         sym (length-map now.lines seen) ∙ ap length p.lines
         ∙ omega (arith, length-append p.front (drop i (seen_lines start)), length-drop i (seen_lines start), p.done)
 
-    present_now : n < length now.lines
+    pub present_now : n < length now.lines
     present_now = omega (arith, length_now)
 
-    next-line : seen (line_at now (n + 1)) ≡ get_or (seen_lines start) i (seen stored.blank)
+    pub next-line : seen (line_at now (n + 1)) ≡ get_or (seen_lines start) i (seen stored.blank)
     next-line =
         let d : Line = seen stored.blank in
         let z : n ≡ length p.front + 0 = omega (arith, p.done) in
@@ -155,7 +155,7 @@ module _ (s : Substitution) (r : Span) (start : Store) where
           ∙ ap (λ x. x ++ placed created S more) (placed_for s i S d here)))
           ∙ p.whole
 
-      fits_next : all_fit (texts_of (placed created (seen_lines start) (rewritten s r 1 (seen_lines start)))) ≡ true
+      pub fits_next : all_fit (texts_of (placed created (seen_lines start) (rewritten s r 1 (seen_lines start)))) ≡ true
           → all_fit (texts_of (lines_for s (seen (line_at now (n + 1))))) ≡ true
       fits_next f =
           let made : List Line = lines_for s (seen (line_at now (n + 1))) in
@@ -164,7 +164,7 @@ module _ (s : Substitution) (r : Span) (start : Store) where
           let b = sym (all_fit_append made more) ∙ (and_parts (all_fit (texts_of p.front)) (all_fit (texts_of (made ++ more))) a).1 in
           (and_parts (all_fit (texts_of made)) (all_fit (texts_of more)) b).0
 
-      room_next : length (placed created (seen_lines start) (rewritten s r 1 (seen_lines start))) ≤ start.capacity
+      pub room_next : length (placed created (seen_lines start) (rewritten s r 1 (seen_lines start))) ≤ start.capacity
           → length now.lines + length (lines_for s (seen (line_at now (n + 1)))) ≤ now.capacity + 1
       room_next f =
           let S : List Line = seen_lines start in
@@ -184,7 +184,7 @@ module _ (s : Substitution) (r : Span) (start : Store) where
             p.capacity,
           )
 
-      underway_next : (next : Store) (k : ℕ)
+      pub underway_next : (next : Store) (k : ℕ)
           → seen_lines next ≡ take n (seen_lines now) ++ (lines_for s (seen (line_at now (n + 1))) ++ drop (n + 1) (seen_lines now))
           → next.capacity ≡ now.capacity → k ≡ n + length (lines_for s (seen (line_at now (n + 1))))
           → Underway s r start next (i + 1) k

@@ -39,7 +39,7 @@ front-filled (the_match ∷ bits) m r t at ms = front_front [] m _
 front-filled (the_byte b ∷ bits) m r t at ms = front_front [] (b ∷ []) _
 front-filled (the_break ∷ bits) m r t at ms = refl
 
-front_left : (s : Substitution) (t : List ℕ) (c : Cursor) → in_front [] (lines_from s t c) ≡ lines_from s t c
+pub front_left : (s : Substitution) (t : List ℕ) (c : Cursor) → in_front [] (lines_from s t c) ≡ lines_from s t c
 front_left s t c =
     let e = left_is s t c in
     ap (λ ls. in_front [] ls) e
@@ -54,13 +54,12 @@ pub record Partly (s : Substitution) (t : List ℕ) (start c : Cursor) (out : Op
   pub placed : Placed (length t) c
 
 module _ (s : Substitution) (t : List ℕ) (start : Cursor) where
+  -- with nothing of it spelled out
+  pub emptied : (out : Option (ArrayVec ℕ)) → out ≡ line_of [] → Placed (length t) start → Partly s t start start out
+  emptied out e placed = record { line = []; lines = front_left s t start; written = e; placed = placed }
+
   pub begun : (v : ArrayVec ℕ) → v.items ≡ [] → Placed (length t) start → Partly s t start start (Some v)
-  begun v e placed = record {
-    line = [];
-    lines = front_left s t start;
-    written = ap (λ (xs : List ℕ). Some (record { items = xs })) e;
-    placed = placed;
-  }
+  begun v e placed = emptied (Some v) (ap (λ (xs : List ℕ). Some (record { items = xs })) e) placed
 
   module _ (c : Cursor) (out : Option (ArrayVec ℕ)) (r : Step) (p : Partly s t start c out) (q : Stepped s t c r) where
     -- the lines from the start on, by a token's bytes

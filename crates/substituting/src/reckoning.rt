@@ -1,5 +1,6 @@
 // What a substitution would make of a text, before anything is altered.
 ghost use Rattle.std.specs.Prelude.{◌≡◌, ◌+◌, ◌≤◌, min, true, length, IfSome};
+ghost use Rattle.std.specs.List.{fold};
 ghost use Rattle.lines.specs.Line.{all_fit};
 ghost use Rattle.lines.specs.Store.{line_at};
 ghost use Rattle.command.specs.View.{substitution_view};
@@ -9,6 +10,7 @@ ghost use Rattle.rules.specs.Pieces.{last_new};
 ghost use Rattle.rules.specs.Printing.{printed};
 ghost use Rattle.substituting.specs.Made.{pieces_of, after, pieces_for};
 ghost use Rattle.substituting.specs.Reckoning.{number_of, reckoned_line, reckoned_old, reckoned_pieces, Right};
+ghost use Rattle.substituting.specs.Rest.{rest_of};
 
 use crate::line::Spelled;
 use crate::rule::Rule;
@@ -88,7 +90,7 @@ impl Reckoned {
     {
         match rule.hit(line, &mut [0; LINE_MAX]) {
             None => self.with_old(),
-            Some(text) => Spelling::new(rule, text).fold(self, Reckoned::with_new),
+            Some(text) => self.with_lines(Spelling::new(rule, text)),
         }
     }
 
@@ -102,13 +104,25 @@ impl Reckoned {
         }
     }
 
+    // With the lines more that one becomes, each spelled out in the place of the last.
+    fn with_lines(self, mut lines: Spelling<'_>) -> Reckoned
+        ensures { result ≡ fold reckoned_line self (rest_of lines.entry) }
+    {
+        let mut sum = self;
+        let mut line = None;
+        while lines.next_line(&mut line) {
+            sum = sum.with_new(&line);
+        }
+        sum
+    }
+
     // With a line more that is created.
-    fn with_new(self, line: Spelled) -> Reckoned
-        ensures { result ≡ reckoned_line self line }
+    fn with_new(self, line: &Spelled) -> Reckoned
+        ensures { result ≡ reckoned_line self line.now }
     {
         let number = plus(self.count, 1);
         let (fits, size) = match line {
-            Some(line) => (fits_line(&line), line.len() + 1),
+            Some(line) => (fits_line(line), line.len() + 1),
             None => (false, 0),
         };
         Reckoned {

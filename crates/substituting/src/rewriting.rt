@@ -63,7 +63,7 @@ fn rewrite_line<T: LineStore>(text: &mut T, done: usize, rule: &Rule<'_>) -> usi
 }
 
 // Puts lines that are spelled out behind line `behind`, and answers the number of the last of them.
-fn put_lines<T: LineStore>(text: &mut T, behind: usize, lines: Spelling<'_>) -> usize
+fn put_lines<T: LineStore>(text: &mut T, behind: usize, mut lines: Spelling<'_>) -> usize
     requires behind { behind ≤ length (T.LineStore.meaning text.old).lines }
     requires fits { all_fit (lines_of lines) ≡ true }
     requires room { length (T.LineStore.meaning text.old).lines + length (lines_of lines) ≤ (T.LineStore.meaning text.old).capacity }
@@ -71,11 +71,12 @@ fn put_lines<T: LineStore>(text: &mut T, behind: usize, lines: Spelling<'_>) -> 
     ensures capacity { (T.LineStore.meaning text.new).capacity ≡ (T.LineStore.meaning text.old).capacity }
     ensures done { result ≡ behind + length (lines_of lines.entry) }
 {
-    let mut done = behind;
     // Counted by hand: the count is what is answered, so it is wanted behind the loop too.
-    for line in lines {
-        let bytes = line.unwrap();
-        put_line(text, done, LineText { bytes: &bytes }, PLAIN);
+    let mut done = behind;
+    let mut line = None;
+    while lines.next_line(&mut line) {
+        let bytes = line.as_ref().unwrap();
+        put_line(text, done, LineText { bytes }, PLAIN);
         done += 1;
     }
     done

@@ -4,9 +4,8 @@ ghost use Rattle.std.proofs.Props.{props};
 ghost use Rattle.substituting.specs.Places.{Placed};
 
 use crate::cursor::{Cursor, Step, Token};
-use crate::line::{Spelled, add};
+use crate::line::{Spelled, add, empty};
 use crate::rule::Rule;
-use arrayvec::ArrayVec;
 use lines::line::LineText;
 
 // Those that are left, behind the place of a cursor.
@@ -20,11 +19,11 @@ pub struct Spelling<'a> {
 }
 
 impl<'a> Spelling<'a> {
-    ghost use Rattle.std.specs.Prelude.{◌≡◌, ◌∷◌, map};
+    ghost use Rattle.std.specs.Prelude.{◌≡◌, true, false, [], ◌∷◌, map};
     ghost use Rattle.command.specs.View.{substitution_view};
     ghost use Rattle.rules.specs.Patterns.{substituted};
     ghost use Rattle.substituting.specs.Spelling.{line_of, lines_from, lines_left};
-    ghost use Rattle.substituting.specs.Rest.{lines_of};
+    ghost use Rattle.substituting.specs.Rest.{lines_of, rest_of};
 
     // All the lines that a line becomes.
     pub fn new(rule: &'a Rule<'a>, text: LineText<'a>) -> Spelling<'a>
@@ -44,42 +43,40 @@ impl<'a> Spelling<'a> {
         }
     }
 
-    // Spells out the line at a place, and answers the place behind it.
-    fn spell(&self, from: Cursor<'a>) -> (Spelled, Option<Cursor<'a>>)
-        requires placed { Placed (length self.now.text.bytes.now) from }
-        ensures line { map line_of (lines_from (substitution_view self.now.rule.now.substitution) self.now.text.bytes.now from.entry) ≡ result.0 ∷ map line_of (lines_left (substitution_view self.now.rule.now.substitution) self.now.text.bytes.now result.1) }
-        ensures placed { IfSome result.1 (Placed (length self.now.text.bytes.now)) }
+    // Spells out the next line, if there is one, in place of what `line` was. An iterator would hand on each line with its bytes.
+    // Written into its caller's loop, as `spell` is into it: called, each line would copy the place in and out.
+    #[inline(always)]
+    pub fn next_line(&mut self, line: &mut Spelled) -> bool
+        ensures some { result ≡ true → rest_of self.old ≡ line.new ∷ rest_of self.new }
+        ensures none { result ≡ false → rest_of self.old ≡ [] }
     {
-        let mut line = Some(ArrayVec::new());
+        let Some(from) = self.cursor else {
+            return false;
+        };
+        self.cursor = self.spell(from, line);
+        true
+    }
+
+    // The same with the line at a place, and answers the place behind it.
+    #[inline(always)]
+    fn spell(&self, from: Cursor<'a>, line: &mut Spelled) -> Option<Cursor<'a>>
+        requires placed { Placed (length self.now.text.bytes.now) from }
+        ensures line { map line_of (lines_from (substitution_view self.now.rule.now.substitution) self.now.text.bytes.now from.entry) ≡ line.new ∷ map line_of (lines_left (substitution_view self.now.rule.now.substitution) self.now.text.bytes.now result) }
+        ensures placed { IfSome result (Placed (length self.now.text.bytes.now)) }
+    {
+        empty(line);
         let mut here = from;
         loop {
             let Step { token, next } = self.step(here);
             match token {
-                Token::Run(bytes) => add(&mut line, bytes),
-                Token::Byte(byte) => add(&mut line, &[byte]),
-                Token::Break => return (line, next),
+                Token::Run(bytes) => add(line, bytes),
+                Token::Byte(byte) => add(line, &[byte]),
+                Token::Break => return next,
             }
             let Some(cursor) = next else {
-                return (line, None);
+                return None;
             };
             here = cursor;
         }
-    }
-}
-
-impl Iterator for Spelling<'_> {
-    ghost use Rattle.std.specs.Iterator.{YieldsFirst, item_count};
-    ghost use Rattle.substituting.specs.Rest.{rest_of};
-
-    type Item = Spelled;
-
-    ghost next_gives = { YieldsFirst rest_of };
-
-    ghost remaining = { item_count rest_of };
-
-    fn next(&mut self) -> Option<Spelled> {
-        let (line, rest) = self.spell(self.cursor?);
-        self.cursor = rest;
-        Some(line)
     }
 }

@@ -1,5 +1,5 @@
-use Rattle.std.proofs.Common.{◌≡◌, true, List, ℕ, ◌∷◌, ◌++◌, take, drop, Option, sym, refl, ap, ◌∙◌, subst}
-use Rattle.std.specs.Option.{IsSome}
+use Rattle.std.proofs.Common.{◌≡◌, true, List, ℕ, ◌∷◌, ◌++◌, take, drop, Some, Option, is_some, sym, ap, ◌∙◌}
+use Rattle.std.specs.Option.{option_copied}
 use Rattle.arrayvec.specs.ArrayVec.{ArrayVec}
 use Rattle.lines.specs.Line.{fitting}
 use Rattle.lines.specs.Store.{Store}
@@ -10,22 +10,24 @@ use Rattle.substituting.proofs.rewriting.put_lines.Goals as goal
 
 pub unwrap-bytes-requires : goal.unwrap-bytes-requires
 unwrap-bytes-requires g c =
-    let k = next_put _ _ _ _ _ _ _ _ c.loop-line.invariant c.in-Some.ensures.steps in
-    subst (λ (o : Option (ArrayVec ℕ)). IsSome o) (sym k.first-is) refl
+    let k = next_put _ _ _ _ _ _ _ _ c.loop-lines.invariant (c.next_line.ensures.some c.loop-lines-test.true) in
+    c.as_ref.ensures.variant ∙ ap (λ (o : Option (ArrayVec ℕ)). is_some o) k.first-is
 
 pub invariant_of-put_line : goal.invariant_of-put_line
 invariant_of-put_line g c =
-    let k = next_put _ _ _ _ _ _ _ _ c.loop-line.invariant c.in-Some.ensures.steps in
+    let k = next_put _ _ _ _ _ _ _ _ c.loop-lines.invariant (c.next_line.ensures.some c.loop-lines-test.true) in
     let w = c.deref.result.now in
-    let fits : fitting w ≡ true = ap fitting (c.deref.ensures.0 ∙ same_items c.unwrap-bytes.result k.line (sym c.unwrap-bytes.ensures ∙ k.first-is)) ∙ k.fits in
+    let whole : Some c.unwrap-bytes.result.now ≡ c.next_line.new.line = sym (ap option_copied c.unwrap-bytes.ensures) ∙ c.as_ref.ensures.value in
+    let fits : fitting w ≡ true = ap fitting (c.deref.ensures.0 ∙ same_items c.unwrap-bytes.result.now k.line (whole ∙ k.first-is)) ∙ k.fits in
     record { short = fitting_short w fits; unbroken = fitting_unbroken w fits }
 
-pub loop-line-preserved : goal.loop-line-preserved
-loop-line-preserved g c =
-    let now = g.T.LineStore.meaning c.loop-line.text in
-    let b = c.loop-line.done in
-    let k = next_put _ _ _ _ _ _ _ _ c.loop-line.invariant c.in-Some.ensures.steps in
-    let same = c.deref.ensures.0 ∙ same_items c.unwrap-bytes.result k.line (sym c.unwrap-bytes.ensures ∙ k.first-is) in
+pub loop-lines-preserved : goal.loop-lines-preserved
+loop-lines-preserved g c =
+    let now = g.T.LineStore.meaning c.loop-lines.text in
+    let b = c.loop-lines.done in
+    let k = next_put _ _ _ _ _ _ _ _ c.loop-lines.invariant (c.next_line.ensures.some c.loop-lines-test.true) in
+    let whole : Some c.unwrap-bytes.result.now ≡ c.next_line.new.line = sym (ap option_copied c.unwrap-bytes.ensures) ∙ c.as_ref.ensures.value in
+    let same = c.deref.ensures.0 ∙ same_items c.unwrap-bytes.result.now k.line (whole ∙ k.first-is) in
     record {
       lines = k.others;
       rest-is = k.rest-is;

@@ -1,12 +1,10 @@
-use Rattle.std.proofs.Common.{ℕ, List, map, sym, refl, ap, ◌∙◌, rules, tests}
-use Rattle.std.proofs.lemmas.Iterator.Consumers.{YieldsList-from_first, fold_from_yields_List}
+use Rattle.std.proofs.Common.{ℕ, List, map, sym, ap, ◌∙◌}
 use Rattle.std.specs.List.{fold}
 use Rattle.lines.specs.Store.{line_at}
 use Rattle.command.specs.View.{substitution_view}
 use Rattle.rules.specs.Patterns.{substituted}
 use Rattle.rules.specs.Pieces.{Piece}
 use Rattle.substituting.specs.Reckoning.{reckoned_line, reckoned_pieces}
-use Rattle.substituting.specs.Rest.{rest_of}
 use Rattle.substituting.specs.Spelling.{line_of}
 use Rattle.substituting.proofs.Summing.{pieces_hit}
 use Rattle.substituting.proofs.Tallying.{reckoned_news}
@@ -17,7 +15,7 @@ returns-in-Some g c =
     let s = substitution_view c.args.rule.now.substitution in
     let t = (line_at (g.T.LineStore.meaning c.args.line.now.store.now) c.args.line.now.n).text in
     let k = c.args.self in
-    fold_from_yields_List _ reckoned_line k c.fold.result c.fold.ensures.ran (YieldsList-from_first (λ x. x) rest_of _ refl) (λ a x b q h. search (rules, tests))
+    c.with_lines.ensures
     ∙ ap (λ (ls : List (List ℕ)). fold reckoned_line k (map line_of ls)) c.new.ensures
     ∙ ap (λ (x : List ℕ). fold reckoned_line k (map line_of (substituted s x))) c.in-Some.ensures.line
     ∙ reckoned_news (substituted s t) k

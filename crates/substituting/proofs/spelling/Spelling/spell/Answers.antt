@@ -2,14 +2,14 @@ use Rattle.std.proofs.Common.{[], ◌∷◌, ap, ◌∙◌}
 use Rattle.command.specs.View.{substitution_view}
 use Rattle.substituting.specs.declared.cursor.Token.{Token}
 use Rattle.substituting.specs.Spelling.{ahead}
-use Rattle.substituting.proofs.Writing.{begun, continued}
+use Rattle.substituting.proofs.Writing.{emptied, continued}
 use Rattle.substituting.proofs.spelling.Spelling.spell.Goals as goal
 use Rattle.substituting.proofs.spelling.Spelling.spell.Goals.{in-Run, in-Byte}
 
 pub loop-bytes-init : goal.loop-bytes-init
 loop-bytes-init c =
     let p = c.args.self.now in
-    begun (substitution_view p.rule.now.substitution) p.text.bytes.now c.args.from c.new.result c.new.ensures c.requires.placed
+    emptied (substitution_view p.rule.now.substitution) p.text.bytes.now c.args.from c.empty.new.line c.empty.ensures c.requires.placed
 
 pub loop-bytes-preserved : goal.loop-bytes-preserved
 loop-bytes-preserved c =
