@@ -13,7 +13,8 @@ pub enum ShiftFault {
 
 // Moves the run of `n` elements at `from` to `to`. The two places may overlap. Elements of the old
 // place that the new one does not cover keep their values.
-#[tactic(auto, using(crate::proofs::Parts::last_part_first))]
+// The two lemmas are there for an edit that moves the run by parts: see where they stand.
+#[tactic(auto, using(crate::proofs::Parts::last_part_first, crate::proofs::Parts::first_part_first))]
 pub fn shift<X: Copy>(s: &mut [X], from: usize, to: usize, n: usize) -> Result<(), ShiftFault>
     ensures value { result ≡ shift_answer s.old from to n }
     ensures after { s.new ≡ shift_after s.old from to n }

@@ -44,7 +44,7 @@ impl<'a> Spelling<'a> {
     }
 
     // Spells out the next line, if there is one, in place of what `line` was. An iterator would hand on each line with its bytes.
-    // Written into its caller's loop, as `spell` is into it: called, each line would copy the place in and out.
+    // Inlined, as `spell` is: a call would copy the cursor in and out for every line.
     #[inline(always)]
     pub fn next_line(&mut self, line: &mut Spelled) -> bool
         ensures some { result ≡ true → rest_of self.old ≡ line.new ∷ rest_of self.new }
@@ -57,7 +57,7 @@ impl<'a> Spelling<'a> {
         true
     }
 
-    // The same with the line at a place, and answers the place behind it.
+    // Spells out the line at a place into `line`, and answers the place behind it.
     #[inline(always)]
     fn spell(&self, from: Cursor<'a>, line: &mut Spelled) -> Option<Cursor<'a>>
         requires placed { Placed (length self.now.text.bytes.now) from }
@@ -73,10 +73,7 @@ impl<'a> Spelling<'a> {
                 Token::Byte(byte) => add(line, &[byte]),
                 Token::Break => return next,
             }
-            let Some(cursor) = next else {
-                return None;
-            };
-            here = cursor;
+            here = next?;
         }
     }
 }
