@@ -1,5 +1,5 @@
 -- The digits of a number are what std prints of it.
-use Rattle.std.proofs.Common.{◌≡◌, ℕ, suc, ◌+◌, ◌/◌, ◌%◌, ◌^◌, ◌<◌, Bool, true, false, List, [], ◌∷◌, ◌++◌, length, ap, ◌∙◌, arith}
+use Rattle.std.proofs.Common.{◌≡◌, ℕ, suc, ◌+◌, ◌/◌, ◌%◌, ◌^◌, ◌<◌, Bool, true, false, List, [], ◌∷◌, ◌++◌, length, sym, ap, ◌∙◌, arith}
 use Rattle.std.specs.Fmt.{decimal}
 use Rattle.std.proofs.lemmas.Fmt.{AppendsLastDigit, decimal_from_appends, length-decimal-le_succ}
 use Rattle.std.proofs.lemmas.List.{length_push}
@@ -18,3 +18,7 @@ numbered_is n h =
 
 pub number-length : (n : ℕ) → n < 2 ^ 64 → length (numbered n) ≡ length (decimal n) + 1
 number-length n h = ap length (numbered_is n h) ∙ length_push (decimal n) 10
+
+-- by its digits, as they are printed
+pub size_is : (n : ℕ) (ds : List ℕ) → n < 2 ^ 64 → ds ≡ decimal n → length (numbered n) ≡ length ds + 1
+size_is n ds h e = number-length n h ∙ ap (λ xs. length xs + 1) (sym e)
