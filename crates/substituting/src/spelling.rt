@@ -48,7 +48,7 @@ impl<'a> Spelling<'a> {
     #[inline(always)]
     pub fn next_line(&mut self, line: &mut Spelled) -> bool
         ensures some { result ≡ true → rest_of self.old ≡ line.new ∷ rest_of self.new }
-        ensures none { result ≡ false → rest_of self.old ≡ [] }
+        ensures none { result ≡ false → (rest_of self.old ≡ []) × ((self.new ≡ self.old) × (line.new ≡ line.old)) }
     {
         let Some(from) = self.cursor else {
             return false;
